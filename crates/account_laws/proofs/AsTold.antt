@@ -28,14 +28,14 @@ use Rattle.account_machine.specs.declared.event.Reply.TheVariants as reply
 use Rattle.account_laws.proofs.Afterwards.{inserted}
 use Rattle.account_laws.proofs.Changes.{Makes, refuses, reads, makes, takes, acts, releases, starts, settles, grants, act_asked, makes_one, only_reads, makes_jobs, ready_is}
 use Rattle.account_laws.proofs.DevicesStay.{same_name}
-use Rattle.account_laws.proofs.LifeLemmas.{account_exchange, device_exchange, of_each_life, unopened_answer}
+use Rattle.account_lives.proofs.LifeLemmas.{account_exchange, device_exchange, of_each_life, unopened_answer}
 use Rattle.account_laws.proofs.Moved.{no_document_more, one_document_more, same_copies, same_created, same_documents, was_unfinished, brings_document}
 use Rattle.account_laws.proofs.PlacedDocuments.{Follows, none_after, none_placed, others_stay, placed, placed_with, same_placed}
-use Rattle.account_laws.proofs.StageLemmas.{canceled_at, freed_at, held_at, released_at, sent_at, settled_at, started_at}
+use Rattle.account_laws.proofs.StageLemmas.{canceled_at, freed_at, freed_binds, held_at, held_binds, released_at, sent_at, settled_at, started_at}
 use Rattle.account_laws.specs.AccountsTold.{AccountTold, account_told, after_deed, after_exchange, nothing_told, rate_told, with_job}
 use Rattle.account_laws.specs.Deeds.{Deed, Opened, Made, Brought, Released, Started, Settled, Granted, Switched, Rated, NoDeed, account_deed, asked_deed, deed_of_request, device_deed}
 use Rattle.account_laws.specs.JobsTold.{JobTold, Sent, brought_first, impressions_told, is_left_open, stage_released, job_brought, job_canceled, job_freed, job_held, job_made, job_released, job_settled, job_started, sent_by}
-use Rattle.account_laws.specs.Lives.{Exchange, IsLife, Life}
+use Rattle.account_lives.specs.Lives.{Exchange, IsLife, Life}
 use Rattle.account_laws.specs.StandsAsTold.{AccountStands, AreAsTold, IsAsTold, IsAt, LeavesAsTold, StandsAsTold, WasNotOpened, as_sent, device_told}
 use Rattle.account_laws.specs.Told.{if_passed, is_documents, is_ok, is_successful, request_of}
 use Rattle.account_replies.specs.Lines.{success_text}
@@ -102,6 +102,8 @@ same_of_other before after number ticket job keeps is = record {
   created = is.created;
   impressions = is.impressions;
   count = is.count;
+  bound = is.bound;
+  rated = is.rated;
   stage = is.stage;
   is_open = is.is_open;
   documents = λ unfinished. ap (map as_sent) (same_placed after.documents before.documents number keeps) ∙ is.documents unfinished;
@@ -174,6 +176,8 @@ record Fits (ticket : JobTold) (s : Standing) : Type 0 where
   pub created : s.created ≡ ticket.made
   pub impressions : s.impressions ≡ ticket.impressions
   pub count : s.documents ≡ length ticket.documents
+  pub bound : s.device ≡ ticket.device
+  pub rated : s.rate ≡ ticket.rate
   pub stage : IsAt ticket.stage s
   pub is_open : is_unfinished s.state ≡ true → s.is_open ≡ ticket.is_open
 
@@ -192,6 +196,8 @@ as_told number ticket room job of fits documents = record {
   created = fits.created;
   impressions = fits.impressions;
   count = fits.count;
+  bound = fits.bound;
+  rated = fits.rated;
   stage = fits.stage;
   is_open = fits.is_open;
   documents = documents;
@@ -208,7 +214,7 @@ left_of_others room number q standing differs k =
 documents_left : (room : RoomValue) (number : ℕ) (standing : Standing) → is_unfinished standing.state ≡ true → (with_moved room number standing).documents ≡ room.documents
 documents_left room number standing unfinished = ap (λ (b : Bool). (cond b (with_standing room number standing None) (with_ended room number standing)).documents) unfinished
 
-jobs_moved : (room : RoomValue) (number : ℕ) (job : Job) (standing : Standing) → get room.jobs number ≡ Some job → (q : ℕ) → get (with_moved room number standing).jobs q ≡ cond (q == number) (Some (record job { standing = standing })) (get room.jobs q)
+pub jobs_moved : (room : RoomValue) (number : ℕ) (job : Job) (standing : Standing) → get room.jobs number ≡ Some job → (q : ℕ) → get (with_moved room number standing).jobs q ≡ cond (q == number) (Some (record job { standing = standing })) (get room.jobs q)
 jobs_moved room number job standing there q =
     (elim (is_unfinished standing.state) as (λ (b : Bool). get (cond b (with_standing room number standing None) (with_ended room number standing)).jobs q ≡ get (insert room.jobs number (record job { standing = standing })) q) [
       | true ↦ ap (λ (jobs : FinMap nat_cmp Job). get jobs q) (restood_there room.jobs number standing job there)
@@ -259,18 +265,43 @@ is_station_release _ = false
 same_impressions : (it : Act) (s next : Standing) → is_station_release it ≡ false → move it s ≡ Ok next → next.impressions ≡ s.impressions
 same_impressions it s next other goes = grind (arith, common_steps)
 
+-- the device that a job is bound to, and its rate
+abbrev HasDevice : (device : Option (List ℕ)) (rate : ℕ) (s : Standing) → Type 0
+HasDevice device rate s = (s.device ≡ device) × (s.rate ≡ rate)
+
+-- which a cancel, a settlement and a document leave
+abbrev keeps_device : Act → Bool
+keeps_device (CancelJob now) = true
+keeps_device (StationSettle device completed failed now) = true
+keeps_device (act.SendDocument last some_data) = true
+keeps_device _ = false
+
+same_device : (it : Act) (s next : Standing) → keeps_device it ≡ true → move it s ≡ Ok next → HasDevice s.device s.rate next
+same_device it s next keeps goes = grind (arith, common_steps)
+
+still_has : (number : ℕ) (ticket : JobTold) (room : RoomValue) (job : Job) (next : Standing) → IsAsTold number ticket room job → HasDevice job.standing.device job.standing.rate next → HasDevice ticket.device ticket.rate next
+still_has number ticket room job next is has = (has.0 ∙ is.bound, has.1 ∙ is.rated)
+
+released_binds : (kept device given : List ℕ) (handed_in rate : ℕ) (left : ℤ) (s next : Standing) → move (StationRelease kept device given handed_in rate left) s ≡ Ok next → HasDevice (Some device) rate next
+released_binds kept device given handed_in rate left s next goes = grind (arith, common_steps)
+
+started_binds : (device : List ℕ) (rate now : ℕ) (s next : Standing) → move (StationStart device rate now) s ≡ Ok next → HasDevice (Some device) s.rate next
+started_binds device rate now s next goes = grind (arith, common_steps)
+
 -- a job stays open or closed while it goes on, unless a document comes
 same_open : (it : Act) (s next : Standing) → brings_document it ≡ false → move it s ≡ Ok next → is_unfinished next.state ≡ true → next.is_open ≡ s.is_open
 same_open it s next silent goes unfinished = grind (arith, common_steps)
 
 fits_moved : (number : ℕ) (ticket changed : JobTold) (room : RoomValue) (job : Job) (it : Act) (standing : Standing) → IsAsTold number ticket room job → brings_document it ≡ false → move it job.standing ≡ Ok standing
-    → changed.maker ≡ ticket.maker → changed.made ≡ ticket.made → changed.documents ≡ ticket.documents → changed.is_open ≡ ticket.is_open → standing.impressions ≡ changed.impressions → IsAt changed.stage standing
-    → Fits changed standing
-fits_moved number ticket changed room job it standing is silent goes maker made documents opens impressions stage = record {
+    → changed.maker ≡ ticket.maker → changed.made ≡ ticket.made → changed.documents ≡ ticket.documents → changed.is_open ≡ ticket.is_open → standing.impressions ≡ changed.impressions → HasDevice changed.device changed.rate standing
+    → IsAt changed.stage standing → Fits changed standing
+fits_moved number ticket changed room job it standing is silent goes maker made documents opens impressions has stage = record {
   copies = same_copies it job.standing standing goes ∙ is.copies ∙ ap (λ (m : PlainAsk). m.copies) (sym maker);
   created = same_created it job.standing standing goes ∙ is.created ∙ sym made;
   impressions = impressions;
   count = same_documents it job.standing standing silent goes ∙ is.count ∙ ap (λ (l : List Sent). length l) (sym documents);
+  bound = has.0;
+  rated = has.1;
   stage = stage;
   is_open = λ unfinished. same_open it job.standing standing silent goes unfinished ∙ is.is_open (was_unfinished it job.standing standing goes) ∙ sym opens;
 }
@@ -281,17 +312,18 @@ acted : (told : AccountTold) (room : RoomValue) (now : ℕ) (ask : PlainAsk) (jo
 acted told room now ask job it standing keeps there asks.CancelJob is goes =
     let moves : move (CancelJob now) job.standing ≡ Ok standing = ap (λ (a : Act). move a job.standing) (same_Some (CancelJob now) it is) ∙ goes in
     moved_keeps told room ask.job job (CancelJob now) standing (job_canceled now) keeps there refl moves (λ ticket. (refl, refl))
-    (λ ticket at. fits_moved ask.job ticket (job_canceled now ticket) room job (CancelJob now) standing at refl moves refl refl refl refl (same_impressions (CancelJob now) job.standing standing refl moves ∙ at.impressions) (canceled_at now ticket.stage job.standing standing at.stage moves))
+    (λ ticket at. fits_moved ask.job ticket (job_canceled now ticket) room job (CancelJob now) standing at refl moves refl refl refl refl (same_impressions (CancelJob now) job.standing standing refl moves ∙ at.impressions) (still_has ask.job ticket room job standing at (same_device (CancelJob now) job.standing standing refl moves)) (canceled_at now ticket.stage job.standing standing at.stage moves))
 acted told room now ask job it standing keeps there asks.HoldJob is goes =
     let moves : move HoldJob job.standing ≡ Ok standing = ap (λ (a : Act). move a job.standing) (same_Some HoldJob it is) ∙ goes in
     moved_keeps told room ask.job job HoldJob standing job_held keeps there refl moves (λ ticket. (refl, refl))
-    (λ ticket at. fits_moved ask.job ticket (job_held ticket) room job HoldJob standing at refl moves refl refl refl refl (same_impressions HoldJob job.standing standing refl moves ∙ at.impressions) (held_at ticket.stage job.standing standing at.stage moves))
+    (λ ticket at. fits_moved ask.job ticket (job_held ticket) room job HoldJob standing at refl moves refl refl refl refl (same_impressions HoldJob job.standing standing refl moves ∙ at.impressions) (held_binds ticket.stage job.standing standing at.stage moves) (held_at ticket.stage job.standing standing at.stage moves))
 acted told room now ask job it standing keeps there asks.ReleaseJob is goes =
     let release = ReleaseJob (has_password job) (left_in room now) in
     let moves : move release job.standing ≡ Ok standing = ap (λ (a : Act). move a job.standing) (same_Some release it is) ∙ goes in
     moved_keeps told room ask.job job release standing job_freed keeps there refl moves (λ ticket. (refl, refl))
     (λ ticket at.
     fits_moved ask.job ticket (job_freed ticket) room job release standing at refl moves refl refl refl refl (same_impressions release job.standing standing refl moves ∙ at.impressions)
+    (still_has ask.job ticket room job standing at (freed_binds (has_password job) (left_in room now) ticket.stage job.standing standing at.stage moves))
     (subst (λ (impressions : ℕ). IsAt (stage_released None 1 (impressions * ticket.maker.copies * 1) ticket.stage) standing) at.impressions
     (subst (λ (copies : ℕ). IsAt (stage_released None 1 (job.standing.impressions * copies * 1) ticket.stage) standing) at.copies
     (freed_at (has_password job) (left_in room now) ticket.stage job.standing standing at.stage moves))))
@@ -352,6 +384,8 @@ module _ (told : AccountTold) (room : RoomValue) (now : ℕ) (ask : PlainAsk) (j
         created = same_created it job.standing standing goes ∙ at.is.created;
         impressions = same_impressions it job.standing standing refl goes ∙ at.is.impressions;
         count = so_many none ask job standing at.ticket.documents at.is.count follows;
+        bound = (still_has ask.job at.ticket room job standing at.is (same_device it job.standing standing refl goes)).0;
+        rated = (still_has ask.job at.ticket room job standing at.is (same_device it job.standing standing refl goes)).1;
         stage = sent_at ask.last (not none) at.ticket.stage job.standing standing at.is.stage goes;
         is_open = λ _. left_open ask.last (not none) job.standing standing goes;
       } in
@@ -437,7 +471,9 @@ made_one told room now ask keeps =
       created = refl;
       impressions = refl;
       count = counts_first prints ask ∙ ap (λ (l : List Sent). length l) (sym (first_brought ask ask.operation));
-      stage = record { state = refl; reserved = refl; charged = refl; stopping = refl; started = refl; ended = refl };
+      bound = refl;
+      rated = refl;
+      stage = record { state = refl; bound = refl; rated = refl; reserved = refl; charged = refl; stopping = refl; started = refl; ended = refl };
       is_open = λ _. sym (open_first ask.operation);
     } in
     let is = as_told room.next ticket after job (record { numbered = refl; name = refl; password = refl }) fits
@@ -535,6 +571,7 @@ module _ (told : AccountTold) (room : RoomValue) (devices : Devices) (known : (n
       let counts = counts_alike job.standing impressions ticket at.impressions in
       fits_moved number ticket (job_released device (rate_told told device) impressions ticket) room job release standing at refl goes refl refl refl refl
       (handed_in_counts job.password device password impressions ready.rate (left_in room now) job.standing standing goes ∙ counts)
+      (subst (λ (r : ℕ). HasDevice (Some device) r standing) rate (released_binds job.password device password impressions ready.rate (left_in room now) job.standing standing goes))
       (subst (λ (n : ℕ). IsAt (stage_released (Some device) (rate_told told device) (n * ticket.maker.copies * rate_told told device) ticket.stage) standing) counts
       (subst (λ (copies : ℕ). IsAt (stage_released (Some device) (rate_told told device) (impressions_of job.standing impressions * copies * rate_told told device) ticket.stage) standing) at.copies
       (subst (λ (r : ℕ). IsAt (stage_released (Some device) r (impressions_of job.standing impressions * job.standing.copies * r) ticket.stage) standing) rate
@@ -544,12 +581,14 @@ module _ (told : AccountTold) (room : RoomValue) (devices : Devices) (known : (n
       moved_keeps told room number job start standing (job_started device now) keeps there refl goes (λ ticket. (refl, refl))
       (λ ticket at.
       fits_moved number ticket (job_started device now ticket) room job start standing at refl goes refl refl refl refl (same_impressions start job.standing standing refl goes ∙ at.impressions)
+      (let binds = started_binds device ready.rate now job.standing standing goes in (binds.0, binds.1 ∙ at.rated))
       (started_at device ready.rate now ticket.stage job.standing standing at.stage goes))
   each_keeps _ _ _ (settles device number impressions failed of_it job standing is_known there goes) =
       let settling = StationSettle device impressions failed now in
       moved_keeps told room number job settling standing (job_settled impressions failed now) keeps there refl goes (λ ticket. (refl, refl))
       (λ ticket at.
       fits_moved number ticket (job_settled impressions failed now ticket) room job settling standing at refl goes refl refl refl refl (same_impressions settling job.standing standing refl goes ∙ at.impressions)
+      (still_has number ticket room job standing at (same_device settling job.standing standing refl goes))
       (settled_at device impressions failed now ticket.stage job.standing standing at.stage goes))
   each_keeps _ _ _ (grants month pages new) = granted_too told room month pages keeps
 

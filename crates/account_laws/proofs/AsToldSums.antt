@@ -21,13 +21,13 @@ use Rattle.account_state.specs.Sums.{charged_in, granted_to, left_in, reserved_i
 
 -- ---- of one job
 
-reserved_at : (stage : Stage) (s : Standing) → IsAt stage s → s.reserved ≡ units_held stage
+pub reserved_at : (stage : Stage) (s : Standing) → IsAt stage s → s.reserved ≡ units_held stage
 reserved_at Waits s at = at.reserved
 reserved_at (IsFree device rate units) s at = at.reserved
 reserved_at (Prints device rate units since is_canceled) s at = at.reserved
 reserved_at (HasEnded how count units since ended) s at = at.reserved
 
-charged_at : (stage : Stage) (s : Standing) → IsAt stage s → s.charged ≡ units_taken stage
+pub charged_at : (stage : Stage) (s : Standing) → IsAt stage s → s.charged ≡ units_taken stage
 charged_at Waits s at = at.charged
 charged_at (IsFree device rate units) s at = at.charged
 charged_at (Prints device rate units since is_canceled) s at = at.charged

@@ -1,7 +1,6 @@
 -- A request that passes its checks asks for what lies within the limits.
-use Rattle.std.proofs.Common.{◌≡◌, ℕ, zero, suc, ◌≤◌, ◌-◌, ◌^◌, pos, negsuc, Bool, true, false, ◌&&◌, ◌==◌, nat_lt, nat_le, if◌then◌else◌, List, [], ◌∷◌, ◌++◌, length, Option, Some, None, Ok, refl, ap, subst, ◌∙◌, arith}
+use Rattle.std.proofs.Common.{◌≡◌, ℕ, zero, suc, ◌≤◌, ◌-◌, ◌^◌, pos, negsuc, Bool, true, false, ◌&&◌, ◌==◌, nat_lt, nat_le, if◌then◌else◌, List, length, Option, Some, None, Ok, refl, subst, arith}
 use Rattle.std.specs.Prelude.{IfSome, codes, option_and_then, unwrap_or}
-use Rattle.std.specs.List.{AllByRecursion}
 use Rattle.std.specs.Int.{w32, cast_signed}
 use Rattle.std.proofs.lemmas.Bool.{leb-true, ltb-false}
 use Rattle.std.proofs.lemmas.Bool.Decides.{nat_tests}
@@ -10,16 +9,17 @@ use Rattle.ipp_coding.specs.Plain.{PlainValue, PlainAttribute, PlainMessage}
 use Rattle.ipp_coding.specs.Reading.{header_in, message_of}
 use Rattle.ipp_coding.specs.Values.{is_number_tag}
 use Rattle.ipp_coding.specs.declared.message.Header.{Header}
-use Rattle.account_asks.specs.Asks.{PlainAsk, PlainRefusal, asked, ask_of, read_as}
-use Rattle.account_asks.specs.CheckOrder.{attribute_checks, checks, document_checks, field_checks, header_checks, message_checks, message_or_nothing, opening_checks, target_checks}
-use Rattle.account_asks.specs.Checks.{malformed_check}
-use Rattle.account_asks.specs.Fields.{fidelity, fields_of, impressions, job_name, password}
+use Rattle.account_asks.specs.Asks.{PlainAsk, asked, ask_of, read_as}
+use Rattle.account_asks.specs.CheckOrder.{checks, message_or_nothing}
+use Rattle.account_asks.specs.Fields.{fields_of, impressions, job_name, password}
 use Rattle.account_asks.specs.Operations.{hands_in_document, operation_of}
-use Rattle.account_asks.specs.Refusals.{Check, first_refusal, refusal_of, unless_refused}
+use Rattle.account_asks.specs.Refusals.{first_refusal}
 use Rattle.account_asks.specs.Requests.{lone_value, named, operation_attributes}
 use Rattle.account_asks.specs.Syntaxes.{count_said, from_one, from_zero, positive_said}
-use Rattle.account_asks.specs.Templates.{copies, copies_said, template_attributes, unsupported, up_to_most}
+use Rattle.account_asks.specs.Templates.{copies, copies_said, template_attributes, up_to_most}
 use Rattle.account_asks.specs.declared.operation.Operation.{Operation}
+use Rattle.account_laws.proofs.FirstFound.{passed, second_false}
+use Rattle.account_laws.proofs.PassedChecks.{Passes, all_pass, nothing_asked}
 use Rattle.account_rules.specs.Limits.{longest_document, longest_job_name, longest_password, most_copies, most_impressions}
 
 -- what a room needs to know of a request
@@ -30,62 +30,6 @@ pub record IsWithin (ask : PlainAsk) : Type 0 where
   pub copies_at_most : ask.copies ≤ most_copies
   pub impressions_at_most : ask.impressions ≤ most_impressions
   pub document_fits : hands_in_document ask.operation ≡ true → length ask.payload ≤ longest_document
-
--- ---- checks that all pass
-
--- a check that refuses would be the first to
-none_here : (refused : Bool) (here : PlainRefusal) (later : Option PlainRefusal) → (if refused then Some here else later) ≡ None → (refused ≡ false) × (later ≡ None)
-none_here true here later none = absurd (let no : ⊥ = cc in no)
-none_here false here later none = (refl, none)
-
--- where none refuses, each passes
-pub each_passes : (checks : List Check) → first_refusal checks ≡ None → AllByRecursion (λ check. check.refused ≡ false) checks
-each_passes [] none = tt
-each_passes (check ∷ checks) none =
-    let parts = none_here check.refused (refusal_of check) (first_refusal checks) none in
-    (parts.0, each_passes checks parts.1)
-
--- those after some others do too
-pub later_pass : (earlier later : List Check) → first_refusal (earlier ++ later) ≡ None → first_refusal later ≡ None
-later_pass [] later none = none
-later_pass (check ∷ earlier) later none =
-    later_pass earlier later (none_here check.refused (refusal_of check) (first_refusal (earlier ++ later)) none).1
-
--- and those before them
-pub earlier_pass : (earlier later : List Check) → first_refusal (earlier ++ later) ≡ None → first_refusal earlier ≡ None
-earlier_pass [] later none = refl
-earlier_pass (check ∷ earlier) later none =
-    let parts = none_here check.refused (refusal_of check) (first_refusal (earlier ++ later)) none in
-    ap (λ b. if b then Some (refusal_of check) else first_refusal earlier) parts.0 ∙ earlier_pass earlier later parts.1
-
--- what passes is handed on as it is
-pub passed : {A : Type 0} (first : Option PlainRefusal) (x z : A) → unless_refused first x ≡ Ok z → (first ≡ None) × (x ≡ z)
-passed None x z is = (refl, cc)
-passed (Some refusal) x z is = absurd (let no : ⊥ = cc in no)
-
--- ---- name, password and document
-
--- 15 and 16 of the checks
-fields_within : (operation : Operation) (attributes : List PlainAttribute) → first_refusal (field_checks operation attributes) ≡ None →
-    (length (password operation attributes) ≤ longest_password) × (length (job_name operation attributes) ≤ longest_job_name)
-unfolding field_checks
-fields_within operation attributes none =
-    let each = each_passes (field_checks operation attributes) none in (
-      ltb-false longest_password (length (password operation attributes)) each.1.1.1.1.1.1.0,
-      ltb-false longest_job_name (length (job_name operation attributes)) each.1.1.1.1.1.1.1.0,
-    )
-
-second_false : (a b : Bool) → (a && b) ≡ false → a ≡ true → b ≡ false
-second_false true b is this = is
-second_false false b is this = absurd (let no : ⊥ = cc in no)
-
--- 18 of them
-document_within : (operation : Operation) (insists : Bool) (more : List PlainAttribute) (payload : List ℕ) → first_refusal (document_checks operation insists more payload) ≡ None →
-    hands_in_document operation ≡ true → length payload ≤ longest_document
-unfolding document_checks
-document_within operation insists more payload none hands =
-    let each = each_passes (document_checks operation insists more payload) none in
-    ltb-false longest_document (length payload) (second_false (hands_in_document operation) (nat_lt longest_document (length payload)) each.1.0 hands)
 
 -- ---- impressions
 
@@ -155,58 +99,32 @@ copies_within attributes = attribute_within (named (codes "copies") attributes)
 
 -- ---- the whole
 
--- where the checks of a message pass, so do those of its document
-document_checked : (account : List ℕ) (operation : Operation) (m : PlainMessage) → first_refusal (message_checks account operation m) ≡ None →
-    first_refusal (document_checks operation (fidelity operation (operation_attributes m)) (unsupported (template_attributes operation m)) m.payload) ≡ None
-unfolding message_checks
-document_checked account operation m none = later_pass (attribute_checks account operation (operation_attributes m)) _ none
-
--- and so do those of the target and of the fields
-attributes_checked : (account : List ℕ) (operation : Operation) (m : PlainMessage) → first_refusal (message_checks account operation m) ≡ None →
-    first_refusal (target_checks account operation (operation_attributes m) ++ field_checks operation (operation_attributes m)) ≡ None
-unfolding message_checks attribute_checks
-attributes_checked account operation m none =
-    let attributes = operation_attributes m in
-    let those = earlier_pass (attribute_checks account operation attributes) (document_checks operation (fidelity operation attributes) (unsupported (template_attributes operation m)) m.payload) none in
-    later_pass (opening_checks attributes) (target_checks account operation attributes ++ field_checks operation attributes) those
-
-pub fields_checked : (account : List ℕ) (operation : Operation) (m : PlainMessage) → first_refusal (message_checks account operation m) ≡ None → first_refusal (field_checks operation (operation_attributes m)) ≡ None
-fields_checked account operation m none =
-    later_pass (target_checks account operation (operation_attributes m)) (field_checks operation (operation_attributes m)) (attributes_checked account operation m none)
-
-pub target_checked : (account : List ℕ) (operation : Operation) (m : PlainMessage) → first_refusal (message_checks account operation m) ≡ None → first_refusal (target_checks account operation (operation_attributes m)) ≡ None
-target_checked account operation m none =
-    earlier_pass (target_checks account operation (operation_attributes m)) (field_checks operation (operation_attributes m)) (attributes_checked account operation m none)
-
 -- what is asked then
-pub message_within : (account : List ℕ) (header : Header) (operation : Operation) (m : PlainMessage) → first_refusal (message_checks account operation m) ≡ None → IsWithin (asked account header operation m)
+message_within : (account : List ℕ) (header : Header) (m : PlainMessage) → Passes account header (operation_of header) m → IsWithin (asked account header (operation_of header) m)
 unfolding asked fields_of
-message_within account header operation m none =
-    let fields = fields_within operation (operation_attributes m) (fields_checked account operation m none) in
+message_within account header m passes =
+    let operation = operation_of header in
+    let attributes = operation_attributes m in
     let many = copies_within (template_attributes operation m) in
     record {
-      name_fits = fields.1;
-      password_fits = fields.0;
+      name_fits = ltb-false longest_job_name (length (job_name operation attributes)) passes.name_fits;
+      password_fits = ltb-false longest_password (length (password operation attributes)) passes.password_fits;
       copies_from_one = many.0;
       copies_at_most = many.1;
-      impressions_at_most = impressions_within operation (operation_attributes m);
-      document_fits = document_within operation (fidelity operation (operation_attributes m)) (unsupported (template_attributes operation m)) m.payload (document_checked account operation m none);
+      impressions_at_most = impressions_within operation attributes;
+      document_fits = λ hands. ltb-false longest_document (length m.payload) (second_false (hands_in_document operation) (nat_lt longest_document (length m.payload)) passes.document hands);
     }
 
--- the checks of its message pass where what is read passes
+-- what is read passes its checks, and is what is asked
 pub message_passed : (account : List ℕ) (header : Header) (message : Option PlainMessage) (ask : PlainAsk) → read_as account header message ≡ Ok ask →
-    (first_refusal (message_checks account (operation_of header) (message_or_nothing header message)) ≡ None) × (asked account header (operation_of header) (message_or_nothing header message) ≡ ask)
-message_passed account header message ask is =
-    let operation = operation_of header in
-    let m = message_or_nothing header message in
-    let both = passed (first_refusal (checks account header message)) (asked account header operation m) ask is in
-    let behind = later_pass (header_checks header) (malformed_check message ∷ message_checks account operation m) both.0 in
-    (later_pass (malformed_check message ∷ []) (message_checks account operation m) behind, both.1)
+    (first_refusal (checks account header message) ≡ None) × (asked account header (operation_of header) (message_or_nothing header message) ≡ ask)
+message_passed account header message ask is = passed (first_refusal (checks account header message)) (asked account header (operation_of header) (message_or_nothing header message)) ask is
 
 read_within : (account : List ℕ) (header : Header) (message : Option PlainMessage) (ask : PlainAsk) → read_as account header message ≡ Ok ask → IsWithin ask
-read_within account header message ask is =
-    let both = message_passed account header message ask is in
-    subst IsWithin both.1 (message_within account header (operation_of header) (message_or_nothing header message) both.0)
+read_within account header None ask is = absurd (nothing_asked account header ask is)
+read_within account header (Some m) ask is =
+    let both = message_passed account header (Some m) ask is in
+    subst IsWithin both.1 (message_within account header m (all_pass account header m both.0))
 
 -- whatever the body
 pub ask_within : (account body : List ℕ) (ask : PlainAsk) → ask_of account body ≡ Ok ask → IsWithin ask

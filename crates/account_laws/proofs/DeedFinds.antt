@@ -22,13 +22,13 @@ use Rattle.account_laws.proofs.AsTold.{Keeps, all_keep, deed_done, found, makes_
 use Rattle.account_laws.proofs.Changes.{Makes, refuses, reads, makes, takes, acts, releases, starts, settles, grants, act_asked, makes_one, ready_is}
 use Rattle.account_laws.proofs.DocumentsOfJobs as documents
 use Rattle.account_laws.proofs.DocumentsOfJobs.{AreOfJobs, has_of_jobs}
-use Rattle.account_laws.proofs.LifeLemmas.{account_exchange, device_exchange, leads_on, of_each_life, unopened_answer}
+use Rattle.account_lives.proofs.LifeLemmas.{account_exchange, device_exchange, leads_on, of_each_life, unopened_answer}
 use Rattle.account_laws.proofs.Moved.{document_taken, same_copies, was_unfinished}
 use Rattle.account_laws.specs.AccountsTold.{AccountTold, account_told, after_exchange, nothing_told, rate_told}
 use Rattle.account_laws.specs.Deeds.{Deed, Made, Brought, Canceled, HeldBack, Freed, Released, Started, Settled, Switched, Rated, NoDeed, account_deed, asked_deed, deed_of, device_deed}
 use Rattle.account_laws.specs.HandedByLeave.{given_in}
 use Rattle.account_laws.specs.JobsTold.{JobTold, Stage, Waits, IsFree, Prints, HasEnded, is_over}
-use Rattle.account_laws.specs.Lives.{Exchange, IsLife, Life}
+use Rattle.account_lives.specs.Lives.{Exchange, IsLife, Life}
 use Rattle.account_laws.specs.StandsAsTold.{AreAsTold, IsAsTold, IsAt, device_told}
 use Rattle.account_laws.specs.StationAnswers.{part_told}
 use Rattle.account_laws.specs.Told.{is_ok}

@@ -12,7 +12,7 @@ use Rattle.account_laws.specs.Deeds.{Deed, Made, Brought, Canceled, HeldBack, Fr
 use Rattle.account_laws.specs.ItsOwnJob.{is_on}
 use Rattle.account_laws.specs.JobsMade.{is_making, jobs_made}
 use Rattle.account_laws.specs.JobsTold.{JobTold, job_brought, job_canceled, job_freed, job_held, job_made, job_released, job_settled, job_started}
-use Rattle.account_laws.specs.Lives.{Exchange, Life}
+use Rattle.account_lives.specs.Lives.{Exchange, Life}
 
 -- ---- the jobs
 

@@ -13,8 +13,8 @@ use Rattle.account_machine.specs.NewJobs.{new_document}
 use Rattle.account_machine.specs.Steps.{with_moved}
 use Rattle.account_machine.specs.declared.event.Reply.{Reply}
 use Rattle.account_laws.proofs.Changes.{Makes, refuses, reads, makes, takes, acts, releases, starts, settles, grants, makes_one}
-use Rattle.account_laws.proofs.LifeLemmas.{of_each_life, unopened_answer}
-use Rattle.account_laws.specs.Lives.{IsLife, Life}
+use Rattle.account_lives.proofs.LifeLemmas.{of_each_life, unopened_answer}
+use Rattle.account_lives.specs.Lives.{IsLife, Life}
 use Rattle.account_laws.specs.StandsAsTold.{as_sent}
 use Rattle.account_laws.specs.StationAnswers.{part_told}
 use Rattle.account_replies.specs.Parts.{part_of}

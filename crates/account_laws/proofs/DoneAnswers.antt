@@ -1,5 +1,5 @@
 -- What a request that is done is answered, by what was told before it.
-use Rattle.std.proofs.Common.{◌≡◌, ℕ, Bool, true, true≢false, cond, List, [], ◌∷◌, Option, Some, None, option_map, unwrap_or, Result, Ok, Err, refl, sym, ap, subst, ◌∙◌}
+use Rattle.std.proofs.Common.{◌≡◌, ℕ, Bool, true, true≢false, cond, List, [], ◌∷◌, map, Option, Some, None, option_map, unwrap_or, Result, Ok, Err, refl, sym, ap, subst, ◌∙◌}
 use Rattle.std.specs.Cmp.{both_ways}
 use Rattle.std.specs.FinMap.{FinMap, get, insert, values}
 use Rattle.std.specs.List.{list_any}
@@ -12,6 +12,26 @@ use Rattle.account_asks.specs.Asks.{PlainAsk}
 use Rattle.account_asks.specs.declared.operation.Operation.{Operation}
 use Rattle.account_asks.specs.declared.operation.Operation.TheVariants.{PrintJob, ValidateJob, CreateJob, GetJobAttributes, GetJobs, GetPrinterAttributes}
 use Rattle.account_asks.specs.declared.operation.Operation.TheVariants as asks
+use Rattle.account_laws.proofs.Afterwards.{inserted}
+use Rattle.account_laws.proofs.AsTold.{Keeps, made_one, took, with_job_there}
+use Rattle.account_laws.proofs.AsToldSums.{unfinished_as_told}
+use Rattle.account_laws.proofs.JobRows.{job_group_alike, place_of}
+use Rattle.account_laws.proofs.ListedJobs.{listed_alike}
+use Rattle.account_laws.proofs.MappedValues.{any_changed, same_with_each, values-with_each}
+use Rattle.account_laws.proofs.PrinterRows.{printer_group_alike, printer_told}
+use Rattle.account_laws.proofs.ShownJobs.{group_as_told, job_shown, jobs_told, listed_as_told, processing_is}
+use Rattle.account_laws.proofs.Statuses.{RefusesByError, accepting_errs, move_errs}
+use Rattle.account_laws.proofs.Tellings.{tells_error}
+use Rattle.account_laws.specs.AccountsTold.{AccountTold, after_deed}
+use Rattle.account_laws.specs.Deeds.{Brought}
+use Rattle.account_laws.specs.DoneAnswers.{groups_told, its_group, or_listed_names}
+use Rattle.account_laws.specs.JobRows.{job_group_told}
+use Rattle.account_laws.specs.JobsTold.{JobTold, is_printing, job_brought, job_made}
+use Rattle.account_laws.specs.ListedJobs.{Numbered, jobs_listed}
+use Rattle.account_laws.specs.PrinterRows.{some_is_printed}
+use Rattle.account_laws.specs.StandsAsTold.{AreAsTold, IsAsTold, StandsAsTold, device_told}
+use Rattle.account_laws.specs.Told.{is_successful}
+use Rattle.account_laws.specs.Views.{View, view_of}
 use Rattle.account_machine.specs.JobActs.{job_or_refusal}
 use Rattle.account_machine.specs.JobRequests.{has_data, has_password, document_taken, sent_document}
 use Rattle.account_machine.specs.Machine.{responded}
@@ -21,20 +41,6 @@ use Rattle.account_machine.specs.Queues.{asked_jobs, listed_names}
 use Rattle.account_machine.specs.Requests.{Response, answer_to, asked_at, doing_ask, done_with, refusing_ask_or}
 use Rattle.account_machine.specs.Steps.{and_then, with_moved}
 use Rattle.account_machine.specs.declared.event.Reply.TheVariants as reply
-use Rattle.account_laws.proofs.Afterwards.{inserted}
-use Rattle.account_laws.proofs.AsTold.{Keeps, made_one, took, with_job_there}
-use Rattle.account_laws.proofs.AsToldSums.{unfinished_as_told}
-use Rattle.account_laws.proofs.MappedValues.{any_changed, same_with_each, values-with_each}
-use Rattle.account_laws.proofs.ShownJobs.{group_as_told, listed_as_told, not_processing}
-use Rattle.account_laws.proofs.Statuses.{RefusesByError, accepting_errs, move_errs}
-use Rattle.account_laws.proofs.Tellings.{tells_error}
-use Rattle.account_laws.specs.AccountsTold.{AccountTold, after_deed}
-use Rattle.account_laws.specs.Deeds.{Brought}
-use Rattle.account_laws.specs.DoneAnswers.{groups_told, job_shown, jobs_told, its_group, place_told, printer_told}
-use Rattle.account_laws.specs.JobsTold.{JobTold, Stage, HasEnded, job_brought, job_made}
-use Rattle.account_laws.specs.JobsTold.{is_printing}
-use Rattle.account_laws.specs.StandsAsTold.{AreAsTold, IsAsTold, IsAt, StandsAsTold, device_told}
-use Rattle.account_laws.specs.Told.{is_successful}
 use Rattle.account_replies.specs.JobAttributes.{job_group}
 use Rattle.account_replies.specs.Places.{PlainPlace}
 use Rattle.account_replies.specs.PrinterAttributes.{printer_group}
@@ -76,16 +82,12 @@ put_there : {X : Type 0} (m : FinMap nat_cmp X) (n : ℕ) (x : X) → get (inser
 put_there m n x = inserted m n x n ∙ ap (λ (b : Bool). cond b (Some x) (get m n)) (eq-eqb n n refl)
 
 -- where both are there, they are as told
-pub both_there : (number : ℕ) (room : RoomValue) (ticket : JobTold) (job : Job) (found : Option JobTold) (there : Option Job) → found ≡ Some ticket → there ≡ Some job → AreAsTold number found room there → IsAsTold number ticket room job
+both_there : (number : ℕ) (room : RoomValue) (ticket : JobTold) (job : Job) (found : Option JobTold) (there : Option Job) → found ≡ Some ticket → there ≡ Some job → AreAsTold number found room there → IsAsTold number ticket room job
 both_there number room ticket job found there is are both = subst (λ (o : Option Job). AreAsTold number (Some ticket) room o) are (subst (λ (o : Option JobTold). AreAsTold number o room there) is both)
 
 -- ---- the printer
 
-state_prints : (stage : Stage) (s : Standing) → IsAt stage s → is_processing s.state ≡ is_printing stage
-state_prints (HasEnded how count units since ended) s at = ap is_processing at.state ∙ not_processing how at.is_end
-state_prints _ s at = ap is_processing at.state
-
-some_print : (told : AccountTold) (room : RoomValue) → StandsAsTold told room → has_processing room ≡ list_any (λ (job : JobTold). is_printing job.stage) (values told.jobs)
+some_print : (told : AccountTold) (room : RoomValue) → StandsAsTold told room → has_processing room ≡ some_is_printed told
 some_print told room stands =
     let f : Job → Bool = λ (job : Job). is_processing job.standing.state in
     let g : JobTold → Bool = λ (job : JobTold). is_printing job.stage in
@@ -96,7 +98,7 @@ some_print told room stands =
     by : (number : ℕ) (ticket : Option JobTold) (job : Option Job) → AreAsTold number ticket room job → option_map (λ (job : Job). is_processing job.standing.state) job ≡ option_map (λ (job : JobTold). is_printing job.stage) ticket
     by number None job are = ap (option_map (λ (job : Job). is_processing job.standing.state)) are
     by number (Some ticket) None are = absurd are
-    by number (Some ticket) (Some job) are = ap Some (state_prints ticket.stage job.standing are.stage)
+    by number (Some ticket) (Some job) are = ap Some (processing_is ticket.stage job.standing are.stage)
 
 some_on : (told : AccountTold) (devices : Devices) → ((name : List ℕ) → get devices name ≡ device_told told name) → is_some_on devices ≡ list_any (λ (on : Bool). on) (values told.on)
 some_on told devices known = both_ways (is_some_on devices) (list_any (λ (on : Bool). on) (values told.on)) to from
@@ -124,18 +126,32 @@ printer_as_told told room devices stands known =
     let on = some_on told devices known in
     λ i. printer_now (unfinished i) (next i) (prints i) (on i)
 
+-- ---- the jobs that are listed
+
+names_alike : (wanted : Option (List (List ℕ))) → listed_names wanted ≡ or_listed_names wanted
+names_alike None = refl
+names_alike (Some names) = refl
+
+each_alike : (view : View) (wanted : Option (List (List ℕ))) (jobs : List Numbered)
+    → job_groups (place_of view) (map (λ (job : Numbered). job_shown job.0 job.1) jobs) wanted ≡ map (λ (job : Numbered). job_group_told view wanted job.0 job.1) jobs
+each_alike view wanted [] = refl
+each_alike view wanted (job ∷ jobs) = λ i. job_group_alike view job.0 job.1 wanted i ∷ each_alike view wanted jobs i
+
 -- ---- each operation
 
 module _ (told : AccountTold) (room : RoomValue) (devices : Devices) (known : (name : List ℕ) → get devices name ≡ device_told told name) (now : ℕ) (account : List ℕ) (keeps : Keeps told room) (ask : PlainAsk) where
   abbrev IsDone : Response → Type 0
   IsDone response = is_successful (reply.Ipp response.text) ≡ true
 
-  same_place : asked_at room.opened account now ask ≡ place_told told account now ask
+  abbrev view : View
+  view = view_of told now account ask
+
+  same_place : asked_at room.opened account now ask ≡ place_of view
   same_place = ap (λ (o : Option ℕ). asked_at (unwrap_or o 0) account now ask) (sym keeps.stands.opened)
 
-  group_is : (number : ℕ) (ticket : JobTold) (after : RoomValue) (job : Job) (wanted : Option (List (List ℕ))) → IsAsTold number ticket after job
-      → job_group (asked_at room.opened account now ask) job wanted ≡ job_group (place_told told account now ask) (job_shown number ticket) wanted
-  group_is number ticket after job wanted is = group_as_told (asked_at room.opened account now ask) number ticket after job wanted is ∙ ap (λ (at : PlainPlace). job_group at (job_shown number ticket) wanted) same_place
+  group_is : (number : ℕ) (ticket : JobTold) (after : RoomValue) (job : Job) (wanted : Option (List (List ℕ))) → IsAsTold number ticket after job → job_group (asked_at room.opened account now ask) job wanted ≡ job_group_told view wanted number ticket
+  group_is number ticket after job wanted is =
+      group_as_told (asked_at room.opened account now ask) number ticket after job wanted is ∙ ap (λ (at : PlainPlace). job_group at (job_shown number ticket) wanted) same_place ∙ job_group_alike view number ticket wanted
 
   -- Print-Job and Create-Job
   made_is : IsAsTold told.next (job_made now ask) (with_new_job room (new_job room.next ask now) (new_document room.next ask)) (new_job room.next ask now)
@@ -146,12 +162,11 @@ module _ (told : AccountTold) (room : RoomValue) (devices : Devices) (known : (n
       (subst (λ (n : ℕ). get (insert room.jobs room.next (new_job room.next ask now)) n ≡ Some (new_job room.next ask now)) next (put_there room.jobs room.next (new_job room.next ask now)))
       ((made_one told room now ask keeps).stands.jobs told.next)
 
-  makes : (operation : Operation) (groups : List PlainGroup) → groups ≡ job_group (place_told told account now ask) (job_shown told.next (job_made now ask)) made_names ∷ []
-      → (let response = refusing_ask_or room ask (accepts room) (λ _. done_with (with_new_job room (new_job room.next ask now) (new_document room.next ask)) ask room.next (job_group (asked_at room.opened account now ask) (new_job room.next ask now) made_names ∷ [])) in
-      IsDone response → response.text ≡ answer_to ask groups)
-  makes operation groups are =
-      says_or room ask groups (accepts room) (λ _. done_with (with_new_job room (new_job room.next ask now) (new_document room.next ask)) ask room.next (job_group (asked_at room.opened account now ask) (new_job room.next ask now) made_names ∷ [])) (accepting_errs (unfinished_count room) room.next)
-      (λ _ _. ap (answer_to ask) (ap (λ (g : PlainGroup). g ∷ []) (group_is told.next (job_made now ask) (with_new_job room (new_job room.next ask now) (new_document room.next ask)) (new_job room.next ask now) made_names made_is) ∙ sym are))
+  makes : (let response = refusing_ask_or room ask (accepts room) (λ _. done_with (with_new_job room (new_job room.next ask now) (new_document room.next ask)) ask room.next (job_group (asked_at room.opened account now ask) (new_job room.next ask now) made_names ∷ [])) in
+      IsDone response → response.text ≡ answer_to ask (job_group_told view made_names told.next (job_made now ask) ∷ []))
+  makes =
+      says_or room ask (job_group_told view made_names told.next (job_made now ask) ∷ []) (accepts room) (λ _. done_with (with_new_job room (new_job room.next ask now) (new_document room.next ask)) ask room.next (job_group (asked_at room.opened account now ask) (new_job room.next ask now) made_names ∷ [])) (accepting_errs (unfinished_count room) room.next)
+      (λ _ _. ap (λ (g : PlainGroup). answer_to ask (g ∷ [])) (group_is told.next (job_made now ask) (with_new_job room (new_job room.next ask now) (new_document room.next ask)) (new_job room.next ask now) made_names made_is))
 
   -- Cancel-Job, Hold-Job and Release-Job
   acts : (act : Job → Act) → (let response = refusing_ask_or room ask (and_then (job_or_refusal (get room.jobs ask.job)) (λ (job : Job). move (act job) job.standing)) (λ (standing : Standing). doing_ask (with_moved room ask.job standing) ask []) in
@@ -183,30 +198,34 @@ module _ (told : AccountTold) (room : RoomValue) (devices : Devices) (known : (n
   -- Get-Jobs
   lists : (responded room devices account now ask GetJobs).text ≡ answer_to ask (groups_told told account now ask GetJobs)
   lists =
-      let at = asked_at room.opened account now ask in
-      let all = listed_as_told at ask told room (listed_names ask.wanted) keeps.stands in
-      ap (answer_to ask) (all ∙ ap (λ (at : PlainPlace). job_groups at (asked_jobs ask (jobs_told told)) (listed_names ask.wanted)) same_place)
+      let all = listed_as_told (asked_at room.opened account now ask) ask told room (listed_names ask.wanted) keeps.stands in
+      ap (answer_to ask)
+      (all
+      ∙ ap (λ (at : PlainPlace). job_groups at (asked_jobs ask (jobs_told told)) (listed_names ask.wanted)) same_place
+      ∙ ap (λ (jobs : List Job). job_groups (place_of view) jobs (listed_names ask.wanted)) (listed_alike ask.which ask.limit told room keeps.stands)
+      ∙ each_alike view (listed_names ask.wanted) (jobs_listed ask.which ask.limit told)
+      ∙ ap (λ (names : Option (List (List ℕ))). map (λ (job : Numbered). job_group_told view names job.0 job.1) (jobs_listed ask.which ask.limit told)) (names_alike ask.wanted))
 
   -- Get-Printer-Attributes
   prints : (responded room devices account now ask GetPrinterAttributes).text ≡ answer_to ask (groups_told told account now ask GetPrinterAttributes)
   prints =
       let at = asked_at room.opened account now ask in
       let printer = ap (λ (printer : PrinterNow). printer_group at printer ask.wanted) (printer_as_told told room devices keeps.stands known) in
-      ap (λ (g : PlainGroup). answer_to ask (g ∷ [])) (printer ∙ ap (λ (at : PlainPlace). printer_group at (printer_told told) ask.wanted) same_place)
+      ap (λ (g : PlainGroup). answer_to ask (g ∷ [])) (printer ∙ ap (λ (at : PlainPlace). printer_group at (printer_told told) ask.wanted) same_place ∙ printer_group_alike view told ask.wanted)
 
   pub says : (operation : Operation) → IsDone (responded room devices account now ask operation) → (responded room devices account now ask operation).text ≡ answer_to ask (groups_told told account now ask operation)
-  says PrintJob = makes PrintJob _ refl
-  says CreateJob = makes CreateJob _ refl
+  says PrintJob = makes
+  says CreateJob = makes
   says ValidateJob = says_or room ask [] (accepts room) (λ _. doing_ask room ask []) (accepting_errs (unfinished_count room) room.next) (λ _ _. refl)
   says asks.SendDocument =
-      shows (λ (ticket : JobTold). job_group (place_told told account now ask) (job_shown ask.job (job_brought ask ticket)) made_names) (λ (job : Job). refusing_ask_or room ask (move (act.SendDocument ask.last (has_data ask)) job.standing) (document_taken room account now ask job))
+      shows (λ (ticket : JobTold). job_group_told view made_names ask.job (job_brought ask ticket)) (λ (job : Job). refusing_ask_or room ask (move (act.SendDocument ask.last (has_data ask)) job.standing) (document_taken room account now ask job))
       (λ ticket job is there are.
-      says_or room ask (job_group (place_told told account now ask) (job_shown ask.job (job_brought ask ticket)) made_names ∷ []) (move (act.SendDocument ask.last (has_data ask)) job.standing) (document_taken room account now ask job) (move_errs (act.SendDocument ask.last (has_data ask)) job.standing)
+      says_or room ask (job_group_told view made_names ask.job (job_brought ask ticket) ∷ []) (move (act.SendDocument ask.last (has_data ask)) job.standing) (document_taken room account now ask job) (move_errs (act.SendDocument ask.last (has_data ask)) job.standing)
       (λ standing goes.
       ap (answer_to ask) (ap (λ (g : PlainGroup). g ∷ []) (group_is ask.job (job_brought ask ticket) (with_standing room ask.job standing (sent_document ask job)) (record job { standing = standing }) made_names (brought_is ticket job standing is there goes)))))
   says asks.CancelJob = acts (λ _. CancelJob now)
   says GetJobAttributes =
-      shows (λ (ticket : JobTold). job_group (place_told told account now ask) (job_shown ask.job ticket) ask.wanted) (λ (job : Job). doing_ask room ask (job_group (asked_at room.opened account now ask) job ask.wanted ∷ []))
+      shows (λ (ticket : JobTold). job_group_told view ask.wanted ask.job ticket) (λ (job : Job). doing_ask room ask (job_group (asked_at room.opened account now ask) job ask.wanted ∷ []))
       (λ ticket job is there are done. ap (answer_to ask) (ap (λ (g : PlainGroup). g ∷ []) (group_is ask.job ticket room job ask.wanted are)))
   says GetJobs = λ _. lists
   says GetPrinterAttributes = λ _. prints

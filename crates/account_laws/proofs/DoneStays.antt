@@ -22,7 +22,7 @@ use Rattle.account_laws.specs.HandedOnce.{hands_out}
 use Rattle.account_laws.specs.ItsOwnJob.{is_on}
 use Rattle.account_laws.specs.JobsMade.{jobs_made}
 use Rattle.account_laws.specs.JobsTold.{JobTold, Stage, Waits, IsFree, Prints, HasEnded, is_left_open, is_over, job_brought, job_canceled, job_freed, job_held, job_made, job_released, job_settled, job_started, stage_canceled, stage_held, stage_released, stage_settled, stage_started}
-use Rattle.account_laws.specs.Lives.{Exchange, Life}
+use Rattle.account_lives.specs.Lives.{Exchange, Life}
 
 -- ---- a job that is there, at a deed
 

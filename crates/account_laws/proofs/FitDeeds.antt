@@ -14,11 +14,11 @@ use Rattle.account_laws.proofs.AsTold.{AccountKeeps, Keeps, all_keep, counts_ali
 use Rattle.account_laws.proofs.AsToldSums.{left_as_told}
 use Rattle.account_laws.proofs.Changes.{Makes, refuses, reads, makes, takes, acts, releases, starts, settles, grants, act_asked, makes_one, ready_is}
 use Rattle.account_laws.proofs.DeedFinds.{IsPrinted, none_next, printed_if_settled, same_act, waits_if_released}
-use Rattle.account_laws.proofs.LifeLemmas.{front_of_life, unopened_answer}
+use Rattle.account_lives.proofs.LifeLemmas.{front_of_life, unopened_answer}
 use Rattle.account_laws.specs.AccountsTold.{AccountTold, account_told, left_told, rate_told}
 use Rattle.account_laws.specs.Deeds.{Deed, Made, Freed, Released, Settled, Granted, Switched, Rated, NoDeed, account_deed, asked_deed, deed_of, device_deed, moment_of}
 use Rattle.account_laws.specs.JobsTold.{JobTold, Stage, Waits, need_told}
-use Rattle.account_laws.specs.Lives.{Exchange, IsLife, Life}
+use Rattle.account_lives.specs.Lives.{Exchange, IsLife, Life}
 use Rattle.account_laws.specs.StandsAsTold.{IsAsTold, IsAt, device_told}
 use Rattle.account_laws.specs.StationAnswers.{need_at}
 use Rattle.account_laws.specs.Told.{is_ok}

@@ -14,12 +14,12 @@ use Rattle.account_laws.proofs.Afterwards.{inserted}
 use Rattle.account_laws.proofs.AsTold.{AccountKeeps, all_keep, told_more}
 use Rattle.account_laws.proofs.FitDeeds.{IsFit, by_deeds, deeds_fit}
 use Rattle.account_laws.proofs.JobSums.{same_grants}
-use Rattle.account_laws.proofs.LifeLemmas.{front_of_life}
+use Rattle.account_lives.proofs.LifeLemmas.{front_of_life}
 use Rattle.account_laws.proofs.OperatorsAnswered.{grants_are_answered}
 use Rattle.account_laws.specs.AccountsTold.{AccountTold, account_told, after_deed, rate_told}
 use Rattle.account_laws.specs.Deeds.{Deed, Brought, Canceled, HeldBack, Freed, Released, Started, Settled, Granted, NoDeed, deed_of, moment_of}
 use Rattle.account_laws.specs.JobsTold.{job_brought, job_canceled, job_freed, job_held, job_released, job_settled, job_started}
-use Rattle.account_laws.specs.Lives.{Exchange, IsLife, Life}
+use Rattle.account_lives.specs.Lives.{Exchange, IsLife, Life}
 use Rattle.account_laws.specs.MonthsGrantedOnce.{GrantsSentAgain, IsConflict, IsGranted, IsToldAgain, IsToldHeld, MonthsGrantedOnce, NoMonthTwice, grant_told, grants_month}
 use Rattle.account_laws.specs.OperatorAnswers.{grant_answer, month_answer}
 use Rattle.account_laws.specs.Told.{is_ok}

@@ -9,7 +9,7 @@ use Rattle.account_machine.specs.Machine.{answered, answered_unopened}
 use Rattle.account_machine.specs.declared.event.Reply.{Reply}
 use Rattle.account_laws.proofs.Changes.{Makes, refuses, starts, makes_one}
 use Rattle.account_laws.proofs.AsTold.{rated_by}
-use Rattle.account_laws.proofs.LifeLemmas.{front_of_life, unopened_answer}
+use Rattle.account_lives.proofs.LifeLemmas.{front_of_life, unopened_answer}
 use Rattle.account_laws.specs.HandedAsSent.{HandedAtStarts, IsStart}
 use Rattle.account_laws.specs.Told.{is_documents}
 use Rattle.account_rules.specs.Devices.{Devices}

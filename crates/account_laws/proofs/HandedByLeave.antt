@@ -23,7 +23,7 @@ use Rattle.account_laws.specs.HandedByLeave.{GivesLeave, HasLeave, given_in, tak
 use Rattle.account_laws.specs.ItsOwnJob.{is_on}
 use Rattle.account_laws.specs.JobsMade.{IsMadeBy, jobs_made}
 use Rattle.account_laws.specs.JobsTold.{JobTold, Sent, Stage, Waits, IsFree, Prints, HasEnded, brought_first, brought_next, job_brought, job_canceled, job_freed, job_held, job_made, job_released, job_settled, job_started, stage_canceled, stage_held, stage_released, stage_settled, stage_started}
-use Rattle.account_laws.specs.Lives.{Exchange, Life}
+use Rattle.account_lives.specs.Lives.{Exchange, Life}
 use Rattle.account_laws.specs.StationAnswers.{part_told}
 
 -- ---- an exchange more

@@ -10,8 +10,8 @@ use Rattle.account_laws.specs.AccountsTold.{AccountTold, account_told}
 use Rattle.account_laws.specs.Deeds.{Deed, Made, Brought, Canceled, HeldBack, Freed, Released, Started, Settled, deed_of, moment_of}
 use Rattle.account_laws.specs.HandedOnce as law
 use Rattle.account_laws.specs.HandedOnce.{hands_out, settles, SettledOnceAtMost}
-use Rattle.account_laws.specs.JobsTold.{JobTold, Stage, Waits, IsFree, Prints, HasEnded, stage_canceled, stage_held, stage_released, stage_settled, stage_started}
-use Rattle.account_laws.specs.Lives.{Exchange, Life, OfLives}
+use Rattle.account_laws.specs.JobsTold.{JobTold, Stage, Waits, IsFree, Prints, HasEnded, job_started, stage_canceled, stage_held, stage_released, stage_settled, stage_started}
+use Rattle.account_lives.specs.Lives.{Exchange, Life, OfLives}
 
 -- how often something can still happen to a job, by its stage: it never grows, whatever is done
 pub record NeverGrows (left : Stage → ℕ) : Type 0 where
@@ -100,10 +100,10 @@ start_takes_one device now _ free = absurd free
 
 starts_fall : (now : ℕ) (told : AccountTold) (x : Exchange) (q : ℕ) (deed : Deed) → Finds told x deed → hands_out q deed ≡ true → left_to to_start (turned now told q deed) + 1 ≤ left_to to_start (get told.jobs q)
 starts_fall now told x q (Started device number) finds is =
-    subst (λ (b : Bool). left_to to_start (cond b (option_map (λ (job : JobTold). record job { stage = stage_started device now job.stage }) (get told.jobs q)) (get told.jobs q)) + 1 ≤ left_to to_start (get told.jobs q)) (sym is)
+    subst (λ (b : Bool). left_to to_start (cond b (option_map (job_started device now) (get told.jobs q)) (get told.jobs q)) + 1 ≤ left_to to_start (get told.jobs q)) (sym is)
     (by (get told.jobs q) (subst (λ (n : ℕ). IsSomeAnd (get told.jobs n) (CanBeStarted device number x.1)) (sym (eqb-true q number is)) finds.1))
   where
-    by : (o : Option JobTold) → IsSomeAnd o (CanBeStarted device number x.1) → left_to to_start (option_map (λ (job : JobTold). record job { stage = stage_started device now job.stage }) o) + 1 ≤ left_to to_start o
+    by : (o : Option JobTold) → IsSomeAnd o (CanBeStarted device number x.1) → left_to to_start (option_map (job_started device now) o) + 1 ≤ left_to to_start o
     by None can = absurd can
     by (Some job) can = start_takes_one device now job.stage can.is_free
 starts_fall now told x q _ finds is = absurd (true≢false (sym is))

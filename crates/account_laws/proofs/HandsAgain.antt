@@ -22,7 +22,7 @@ use Rattle.account_laws.specs.HandedAgain as law
 use Rattle.account_laws.specs.HandedAgain.{cancels}
 use Rattle.account_laws.specs.HandedOnce.{settles}
 use Rattle.account_laws.specs.JobsTold.{JobTold, Stage, Waits, IsFree, Prints, job_brought, job_canceled, job_freed, job_held, job_released, job_settled, job_started, stage_released, stage_started}
-use Rattle.account_laws.specs.Lives.{Exchange, Life}
+use Rattle.account_lives.specs.Lives.{Exchange, Life}
 use Rattle.account_laws.specs.StandsAsTold.{AreAsTold, IsAt, device_told}
 use Rattle.account_questions.specs.Stations.{handed_again, printed_by, said_or}
 use Rattle.account_replies.specs.Stations.{known_device}

@@ -25,7 +25,7 @@ secret_once (byte ∷ bytes) = refl
 pub hidden_once : (job : Job) → hidden (hidden job) ≡ hidden job
 hidden_once job = ap (λ password. record job { password = password }) (secret_once job.password)
 
-still_secret : (password : List ℕ) → not (length (secret password) == 0) ≡ not (length password == 0)
+pub still_secret : (password : List ℕ) → not (length (secret password) == 0) ≡ not (length password == 0)
 still_secret [] = refl
 still_secret (byte ∷ bytes) = let some : not (length (byte ∷ bytes) == 0) ≡ true = search rules in sym some
 

@@ -44,12 +44,12 @@ processing_hidden room =
     ap (list_any (λ (job : Job). is_processing job.standing.state)) (values-with_each hidden room.jobs)
     ∙ any_changed hidden (λ (job : Job). is_processing job.standing.state) (values room.jobs)
 
-reserved_hidden : (room : RoomValue) → reserved_in (hidden_room room) ≡ reserved_in room
+pub reserved_hidden : (room : RoomValue) → reserved_in (hidden_room room) ≡ reserved_in room
 reserved_hidden room =
     ap (sum_by (λ (job : Job). job.standing.reserved)) (values-with_each hidden room.jobs)
     ∙ fold-map (λ (n : ℕ) (job : Job). n + job.standing.reserved) hidden 0 (values room.jobs)
 
-charged_hidden : (room : RoomValue) → charged_in (hidden_room room) ≡ charged_in room
+pub charged_hidden : (room : RoomValue) → charged_in (hidden_room room) ≡ charged_in room
 charged_hidden room =
     ap (sum_by (λ (job : Job). job.standing.charged)) (values-with_each hidden room.jobs)
     ∙ fold-map (λ (n : ℕ) (job : Job). n + job.standing.charged) hidden 0 (values room.jobs)

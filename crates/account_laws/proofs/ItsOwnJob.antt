@@ -14,12 +14,12 @@ use Rattle.account_machine.specs.declared.event.Reply.{Reply}
 use Rattle.account_laws.proofs.AsTold.{deed_done, makes_one_job, no_deed, rated_by, reads_nothing, told_more}
 use Rattle.account_laws.proofs.Changes.{Makes, refuses, reads, makes, takes, acts, releases, starts, settles, grants, act_asked, makes_one}
 use Rattle.account_laws.proofs.DeedTurns.{next_after, next_is, others_same}
-use Rattle.account_laws.proofs.LifeLemmas.{front_of_life, leads_on, unopened_answer}
+use Rattle.account_lives.proofs.LifeLemmas.{front_of_life, leads_on, unopened_answer}
 use Rattle.account_laws.specs.AccountsTold.{AccountTold, account_told, after_deed}
 use Rattle.account_laws.specs.Deeds.{Deed, Opened, Made, Brought, Released, Started, Settled, Granted, Switched, Rated, NoDeed, account_deed, asked_deed, deed_of, deed_of_request, device_deed, moment_of}
 use Rattle.account_laws.specs.ItsOwnJob.{ItsOwnJobOnly, OnlyAsks, ReadsAndRefusalsDoNothing, TellsNoDeed, only_asks}
 use Rattle.account_laws.specs.JobsMade.{jobs_made}
-use Rattle.account_laws.specs.Lives.{Exchange, IsLife, LeadsTo, Life}
+use Rattle.account_lives.specs.Lives.{Exchange, IsLife, LeadsTo, Life}
 use Rattle.account_laws.specs.Told.{is_successful, request_of}
 use Rattle.account_rules.specs.Acts.{Act}
 use Rattle.account_rules.specs.Devices.{Devices}

@@ -6,12 +6,12 @@ use Rattle.std.proofs.lemmas.Bool.{ne_eqb}
 use Rattle.std.proofs.lemmas.Option.{none-some}
 use Rattle.account_laws.proofs.AsTold.{AccountKeeps, Keeps, all_keep, told_more}
 use Rattle.account_laws.proofs.DeedTurns.{turned, turned_so}
-use Rattle.account_laws.proofs.LifeLemmas.{front_of_life}
+use Rattle.account_lives.proofs.LifeLemmas.{front_of_life}
 use Rattle.account_laws.specs.AccountsTold.{AccountTold, account_told, after_deed, rate_told}
 use Rattle.account_laws.specs.Deeds.{Deed, Made, Brought, Canceled, HeldBack, Freed, Released, Started, Settled, deed_of, moment_of}
 use Rattle.account_laws.specs.JobsTold.{JobTold, job_brought, job_canceled, job_freed, job_held, job_made, job_released, job_settled, job_started}
 use Rattle.account_laws.specs.LastingJobs.{HasStayed, JobsStay}
-use Rattle.account_laws.specs.Lives.{Exchange, IsLife, Life}
+use Rattle.account_lives.specs.Lives.{Exchange, IsLife, Life}
 use Rattle.account_laws.specs.StandsAsTold.{AreAsTold, WasNotOpened}
 use Rattle.account_rules.specs.Devices.{Devices}
 use Rattle.account_rules.specs.declared.job.Job.{Job}

@@ -3,18 +3,19 @@ use Rattle.std.proofs.Common.{◌≡◌, ℕ, Bool, true, false, not, List, [], 
 use Rattle.std.specs.FinMap.{get}
 use Rattle.std.specs.Option.{option_map_or}
 use Rattle.std.proofs.lemmas.Option.{none-some, same_Some}
+use Rattle.account_laws.proofs.RefusalTexts.{text_alike}
+use Rattle.account_laws.specs.AccountsTold.{AccountTold, rate_told}
+use Rattle.account_laws.specs.JobsTold.{JobTold}
+use Rattle.account_laws.specs.RefusalTexts.{text_of}
+use Rattle.account_laws.specs.Refusals.{Check, first_refusal}
+use Rattle.account_laws.specs.StandsAsTold.{AreAsTold, IsAsTold, device_told}
+use Rattle.account_laws.specs.StationAnswers.{account_checks, device_checks, line_of, ready_checks}
 use Rattle.account_machine.specs.JobActs.{job_or_refusal}
 use Rattle.account_machine.specs.Stations.{by_word}
 use Rattle.account_machine.specs.Steps.{Step, and_then, refusing_or}
 use Rattle.account_machine.specs.declared.event.Reply.{Reply}
 use Rattle.account_machine.specs.declared.event.Reply.TheVariants as reply
-use Rattle.account_laws.specs.AccountsTold.{AccountTold, rate_told}
-use Rattle.account_laws.specs.JobsTold.{JobTold}
-use Rattle.account_laws.specs.Refusals.{Check, first_refusal}
-use Rattle.account_laws.specs.StandsAsTold.{AreAsTold, IsAsTold, device_told}
-use Rattle.account_laws.specs.StationAnswers.{account_checks, device_checks, line_of, ready_checks}
 use Rattle.account_replies.specs.Stations.{known_device, ready_device}
-use Rattle.account_replies.specs.Words.{word_text}
 use Rattle.account_rules.specs.Acts.{Act}
 use Rattle.account_rules.specs.Devices.{Devices}
 use Rattle.account_rules.specs.Moves.{move}
@@ -39,7 +40,7 @@ pub told_by : (room : RoomValue) (next : Standing → Step) (done : Reply) (move
 told_by room next done (Ok standing) None same does = does standing refl
 told_by room next done (Ok standing) (Some word) same does = absurd (none-some word same)
 told_by room next done (Err refusal) None same does = absurd (none-some refusal.word (sym same))
-told_by room next done (Err refusal) (Some word) same does = ap (λ (w : Word). reply.Line (word_text w)) (same_Some refusal.word word same)
+told_by room next done (Err refusal) (Some word) same does = ap reply.Line (text_alike refusal.word ∙ ap text_of (same_Some refusal.word word same))
 
 -- ---- the job
 
@@ -50,7 +51,7 @@ acted_on room found act = by_word (and_then (job_or_refusal found) (λ (job : Jo
 pub job_stands : (told : AccountTold) (room : RoomValue) (number : ℕ) (act : Job → Act) (next : Standing → Step) (checks : JobTold → List (Check Word)) (done : JobTold → Reply)
     → ((ticket : JobTold) (job : Job) → get told.jobs number ≡ Some ticket → get room.jobs number ≡ Some job → IsAsTold number ticket room job → (refusing_or room (by_word (move (act job) job.standing)) next).reply ≡ line_of (first_refusal (checks ticket)) (done ticket))
     → (ticket : Option JobTold) (found : Option Job) → get told.jobs number ≡ ticket → get room.jobs number ≡ found → AreAsTold number ticket room found
-    → (refusing_or room (acted_on room found act) next).reply ≡ line_of (first_refusal (option_map_or checks ticket ((true, NoJob) ∷ []))) (option_map_or done ticket (reply.Line (word_text NoJob)))
+    → (refusing_or room (acted_on room found act) next).reply ≡ line_of (first_refusal (option_map_or checks ticket ((true, NoJob) ∷ []))) (option_map_or done ticket (reply.Line (text_of NoJob)))
 job_stands told room number act next checks done does None None is there are = refl
 job_stands told room number act next checks done does None (Some job) is there are = absurd (none-some job (sym are))
 job_stands told room number act next checks done does (Some ticket) None is there are = absurd are
@@ -90,5 +91,5 @@ known_stands told room devices device decided next rest done known does = ap (λ
 pub opened_stands : (told : AccountTold) (opened : ℕ) (checks : List (Check Word)) (done : Reply) → told.opened ≡ Some opened → line_of (first_refusal checks) done ≡ line_of (first_refusal (account_checks told checks)) done
 opened_stands told opened checks done is = ap (λ (o : Option ℕ). line_of (first_refusal ((is_none o, NoAccount) ∷ checks)) done) (sym is)
 
-pub unopened_stands : (told : AccountTold) (checks : List (Check Word)) (done : Reply) → told.opened ≡ None → reply.Line (word_text NoAccount) ≡ line_of (first_refusal (account_checks told checks)) done
+pub unopened_stands : (told : AccountTold) (checks : List (Check Word)) (done : Reply) → told.opened ≡ None → reply.Line (text_of NoAccount) ≡ line_of (first_refusal (account_checks told checks)) done
 unopened_stands told checks done none = ap (λ (o : Option ℕ). line_of (first_refusal ((is_none o, NoAccount) ∷ checks)) done) (sym none)

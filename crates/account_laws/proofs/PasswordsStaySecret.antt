@@ -13,9 +13,9 @@ use Rattle.account_laws.proofs.AlikeGuesses.{guesses_alike}
 use Rattle.account_laws.proofs.AsTold.{told_more}
 use Rattle.account_laws.proofs.HiddenAnswers.{StepAlike, answered_alike, hidden_step, is_release}
 use Rattle.account_laws.proofs.HiddenRooms.{hidden_room}
-use Rattle.account_laws.proofs.LifeLemmas.{leads_on, unopened_answer}
-use Rattle.account_laws.specs.AccountsTold.{AccountTold, account_told, after_exchange}
-use Rattle.account_laws.specs.Lives.{Exchange, IsLife, LeadsTo, Life}
+use Rattle.account_lives.proofs.LifeLemmas.{leads_on, unopened_answer}
+use Rattle.account_laws.specs.AccountsTold.{AccountTold, account_told, after_exchange, nothing_told}
+use Rattle.account_lives.specs.Lives.{Exchange, IsLife, LeadsTo, Life}
 use Rattle.account_laws.specs.PasswordsStaySecret as law
 use Rattle.account_laws.specs.PasswordsStaySecret.{AreAlike, same, requests, releases, GoAlike, answers_in, gives_password}
 use Rattle.account_laws.specs.StandsAsTold.{AccountStands}
@@ -26,7 +26,7 @@ use Rattle.account_state.specs.Rooms.{RoomValue}
 -- ---- one event
 
 -- two accounts that differ in passwords alone
-abbrev AreRoomsAlike : (a b : Option RoomValue) → Type 0
+abbrev pub AreRoomsAlike : (a b : Option RoomValue) → Type 0
 AreRoomsAlike None None = Unit {0}
 AreRoomsAlike (Some a) (Some b) = hidden_room a ≡ hidden_room b
 AreRoomsAlike _ _ = ⊥
@@ -107,9 +107,19 @@ leads : (room : Option RoomValue) (devices : Devices) (now : ℕ) (event : Plain
 leads room devices now (OfAccount account it) said life left known to = record { reply = to.0; rest = to.1; first = (to.0, (refl, refl)) }
 leads room devices now (OfDevice device it) said life left known to = record { reply = to.0; rest = to.1; first = (to.0, (refl, refl)) }
 
+-- what both are told, and what both leave
+pub record GoneAlike (life another : Life) (left other : Option RoomValue) (known others : Devices) : Type 0 where
+  pub answers : answers_in life ≡ answers_in another
+  pub rooms : AreRoomsAlike left other
+  pub devices : known ≡ others
+
 go : (life another past old : Life) (a b left other : Option RoomValue) (devices known others : Devices) → IsLife past a devices → IsLife old b devices → AreRoomsAlike a b → LeadsTo a devices life left known → LeadsTo b devices another other others
-    → GoAlike (account_told past) (account_told old) life another → answers_in life ≡ answers_in another
-go [] [] past old a b left other devices known others is was alike to on go_alike = refl
+    → GoAlike (account_told past) (account_told old) life another → GoneAlike life another left other known others
+go [] [] past old a b left other devices known others is was alike to on go_alike = record {
+  answers = refl;
+  rooms = subst (λ (room : Option RoomValue). AreRoomsAlike room other) (sym to.0) (subst (AreRoomsAlike a) (sym on.0) alike);
+  devices = to.1 ∙ sym on.1;
+}
 go [] (y ∷ another) past old a b left other devices known others is was alike to on go_alike = absurd go_alike
 go (x ∷ life) [] past old a b left other devices known others is was alike to on go_alike = absurd go_alike
 go (((now, event), said) ∷ life) (((then, happening), told) ∷ another) past old a b left other devices known others is was alike to on go_alike =
@@ -126,7 +136,10 @@ go (((now, event), said) ∷ life) (((then, happening), told) ∷ another) past 
     (subst (λ (t : AccountTold). GoAlike t (account_told (old ++ y ∷ [])) life another) (sym (told_more past x))
     (subst (λ (t : AccountTold). GoAlike (after_exchange (account_told past) x) t life another) (sym (told_more old y))
     (subst (λ (moment : ℕ). GoAlike (after_exchange (account_told past) x) (after_exchange (account_told old) ((moment, happening), told)) life another) (sym go_alike.0) go_alike.2))) in
-    λ i. (one.reply ∙ step.reply ∙ sym two.reply) i ∷ rest i
+    record { answers = λ i. (one.reply ∙ step.reply ∙ sym two.reply) i ∷ rest.answers i; rooms = rest.rooms; devices = rest.devices }
+
+pub gone_alike : (life another : Life) (room other : Option RoomValue) (devices known : Devices) → IsLife life room devices → IsLife another other known → GoAlike nothing_told nothing_told life another → GoneAlike life another room other devices known
+gone_alike life another room other devices known is was alike = go life another [] [] None None room other empty devices known (refl, refl) (refl, refl) tt is was alike
 
 pub passwords_stay_secret : law.PasswordsStaySecret
-passwords_stay_secret life another room other devices known is was alike = go life another [] [] None None room other empty devices known (refl, refl) (refl, refl) tt is was alike
+passwords_stay_secret life another room other devices known is was alike = (gone_alike life another room other devices known is was alike).answers

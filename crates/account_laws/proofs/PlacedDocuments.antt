@@ -14,16 +14,16 @@ use Rattle.account_state.proofs.DocumentMaps.{place_cmp_total, pair_tie}
 -- ---- what is found at numbers that count up
 
 -- so many numbers from one on
-abbrev counted : (from many : ℕ) → List ℕ
+abbrev pub counted : (from many : ℕ) → List ℕ
 counted from zero = []
 counted from (suc many) = from ∷ counted (from + 1) many
 
 -- what there is at the numbers of a list
-abbrev found : {X : Type 0} → (ℕ → Option X) → List ℕ → List X
+abbrev pub found : {X : Type 0} → (ℕ → Option X) → List ℕ → List X
 found at = flat_map (λ number. option_to_list (at number))
 
 -- where none is from some number on, none is found from there
-none_found : {X : Type 0} (at : ℕ → Option X) (from many : ℕ) → ((k : ℕ) → from ≤ k → at k ≡ None) → found at (counted from many) ≡ []
+pub none_found : {X : Type 0} (at : ℕ → Option X) (from many : ℕ) → ((k : ℕ) → from ≤ k → at k ≡ None) → found at (counted from many) ≡ []
 none_found at from zero none = refl
 none_found at from (suc many) none =
     ap (λ o. option_to_list o ++ found at (counted (from + 1) many)) (none from (omega arith)) ∙ none_found at (from + 1) many (λ k above. none k (omega arith))

@@ -12,14 +12,14 @@ use Rattle.std.proofs.lemmas.List.Sums.{sum_by-cons, sum_by_push}
 use Rattle.std.proofs.lemmas.Option.{same_Some}
 use Rattle.account_laws.proofs.AsTold.{told_more}
 use Rattle.account_laws.proofs.FitDeeds.{HasLeft, IsFit, IsWaits, by_deeds, deeds_fit}
-use Rattle.account_laws.proofs.LifeLemmas.{front_of_life}
+use Rattle.account_lives.proofs.LifeLemmas.{front_of_life}
 use Rattle.account_laws.proofs.DeedFinds.{IsPrinted}
 use Rattle.account_laws.proofs.DeedTurns.{turned, turned_so}
 use Rattle.account_laws.proofs.JobSums.{changed_sum, same_grants, sum_of, sum_of_new, unchanged_sum}
 use Rattle.account_laws.specs.AccountsTold.{AccountTold, account_told, after_deed, after_exchange, charged_told, granted_told, left_told, nothing_told, pages_up_to, rate_told, reserved_told, with_job}
 use Rattle.account_laws.specs.Deeds.{Deed, Made, Brought, Canceled, HeldBack, Freed, Released, Started, Settled, Granted, deed_of, moment_of}
 use Rattle.account_laws.specs.JobsTold.{JobTold, Stage, Waits, IsFree, Prints, HasEnded, impressions_told, job_brought, job_canceled, job_freed, job_held, job_made, job_released, job_settled, job_started, need_told, stage_canceled, stage_held, stage_released, stage_settled, stage_started, units_charged, units_held, units_reserved, units_taken}
-use Rattle.account_laws.specs.Lives.{Exchange, IsLife, Life}
+use Rattle.account_lives.specs.Lives.{Exchange, IsLife, Life}
 use Rattle.account_laws.specs.QuotaAccount.{AccountsBalance, IsBalanced, IsSettledAt, ReleasesOweNothing, SettlementsCharge, charge_by, given_back_by, given_back_in, granted_in, granted_up_to, overrun_by, overruns_in, pages_by, pages_by_month, rate_by, rate_fixed, rate_from, releases_now, reserve_by, reserved_for, reserves_in, sum_from, units_taken_back}
 use Rattle.account_laws.specs.StationAnswers.{charge_of, is_waiting, need_at}
 use Rattle.account_laws.specs.QuotaAccount.{or_else}

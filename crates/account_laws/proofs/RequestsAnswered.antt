@@ -25,7 +25,7 @@ use Rattle.account_machine.specs.declared.event.Reply.{Reply}
 use Rattle.account_machine.specs.declared.event.Reply.TheVariants as reply
 use Rattle.account_laws.proofs.AsTold.{AccountKeeps, Keeps, all_keep}
 use Rattle.account_laws.proofs.AsToldSums.{left_as_told, unfinished_as_told}
-use Rattle.account_laws.proofs.LifeLemmas.{front_of_life, unopened_answer}
+use Rattle.account_lives.proofs.LifeLemmas.{front_of_life, unopened_answer}
 use Rattle.account_laws.proofs.Moved.{ended_is}
 use Rattle.account_laws.proofs.Tellings.{tells_success}
 use Rattle.account_laws.specs.AccountsTold.{AccountTold, account_told}

@@ -10,9 +10,9 @@ use Rattle.account_machine.specs.Events.{AccountEvent, DeviceEvent, Ipp, OfAccou
 use Rattle.account_machine.specs.Machine.{answered, answered_unopened}
 use Rattle.account_laws.proofs.Changes.{makes_one}
 use Rattle.account_laws.proofs.DevicesStay.{AreDevices, devices_stay}
-use Rattle.account_laws.proofs.LifeLemmas.{account_exchange, device_exchange, of_each_life, unopened_answer}
+use Rattle.account_lives.proofs.LifeLemmas.{account_exchange, device_exchange, of_each_life, unopened_answer}
 use Rattle.account_laws.proofs.StepsKeepRooms.{event_keeps}
-use Rattle.account_laws.specs.Lives.{Exchange, Life}
+use Rattle.account_lives.specs.Lives.{Exchange, Life}
 use Rattle.account_laws.specs.RoomsStay.{IsEvent, RoomsStay}
 use Rattle.account_rules.specs.Devices.{Devices, name_cmp}
 use Rattle.account_rules.specs.Limits.{IsMoment}

@@ -1,20 +1,19 @@
 -- A job is shown as it was told.
-use Rattle.std.proofs.Common.{◌≡◌, ℕ, zero, suc, true≢false, ◌/◌, ◌*◌, ◌<◌, ◌==◌, Bool, true, false, cond, not, ◌&&◌, List, [], ◌∷◌, map, filter, fold, Option, Some, None, option_map, refl, sym, ap, ◌∙◌, arith}
-use Rattle.std.specs.FinMap.{get, values}
+use Rattle.std.proofs.Common.{◌≡◌, ℕ, zero, suc, true≢false, ◌/◌, ◌*◌, ◌<◌, ◌==◌, Bool, true, false, cond, not, ◌&&◌, List, [], ◌∷◌, length, map, filter, fold, Option, Some, None, option_map, refl, sym, ap, ◌∙◌, arith}
+use Rattle.std.specs.FinMap.{entries, get, values}
 use Rattle.std.specs.List.{AllByRecursion, take-map}
 use Rattle.std.proofs.Math.Nat.{div-one, mul-div_cancel, mul-zero, zero-div}
 use Rattle.std.proofs.lemmas.Bool.Decides.{nat_tests}
 use Rattle.account_asks.specs.Asks.{PlainAsk}
 use Rattle.account_asks.specs.declared.ask.Which.{Which}
 use Rattle.account_asks.specs.declared.ask.Which.TheVariants as whiches
-use Rattle.account_machine.specs.Queues.{asked_jobs, chosen}
 use Rattle.account_laws.proofs.MappedValues.{filter_changed, same_in_order}
 use Rattle.account_laws.specs.AccountsTold.{AccountTold}
-use Rattle.account_laws.specs.DoneAnswers.{count_told, ended_told, job_shown, jobs_told, started_told, state_told}
-use Rattle.account_laws.specs.JobsTold.{JobTold, Stage, Waits, IsFree, Prints, HasEnded}
-use Rattle.account_laws.specs.JobsTold.{is_stopping}
+use Rattle.account_laws.specs.JobsTold.{HasEnded, IsFree, JobTold, Prints, Stage, Waits, is_printing, is_stopping}
+use Rattle.account_laws.specs.StagesTold.{count_told, ended_told, started_told, state_told}
 use Rattle.account_laws.specs.StandsAsTold.{AreAsTold, IsAsTold, IsAt, StandsAsTold}
 use Rattle.account_laws.specs.StationAnswers.{is_waiting}
+use Rattle.account_machine.specs.Queues.{asked_jobs, chosen}
 use Rattle.account_replies.specs.Attributes.{integer, keyword}
 use Rattle.account_replies.specs.JobAttributes.{job_attributes, job_group, job_state_reason}
 use Rattle.account_replies.specs.Places.{PlainPlace}
@@ -23,20 +22,13 @@ use Rattle.account_replies.specs.Tables.{ShownRow, is_wanted, row_attribute, sho
 use Rattle.account_rules.specs.JobStates.{has_ended, is_processing, is_unfinished}
 use Rattle.account_rules.specs.declared.job.Job.{Job}
 use Rattle.account_rules.specs.declared.job.JobState.{JobState}
-use Rattle.account_rules.specs.declared.job.JobState.TheVariants.{Held, Pending, Processing, Canceled, Aborted, Completed}
+use Rattle.account_rules.specs.declared.job.JobState.TheVariants.{Held, Processing, Completed}
 use Rattle.account_rules.specs.declared.job.Standing.{Standing}
 use Rattle.account_state.specs.Queues.{first_jobs, is_later, put_by_end}
 use Rattle.account_state.specs.Rooms.{RoomValue}
+use Rattle.account_state.specs.Summaries.{is_held}
 
 -- ---- what is shown of a job
-
-abbrev is_held : JobState → Bool
-is_held Held = true
-is_held Pending = false
-is_held Processing = false
-is_held Canceled = false
-is_held Aborted = false
-is_held Completed = false
 
 -- the job, and of it nothing that no answer shows
 abbrev pub as_shown : Job → Job
@@ -63,11 +55,7 @@ as_shown job = record {
 
 same_reason : (state : JobState) (is_open stopping : Bool) → job_state_reason state is_open stopping ≡ job_state_reason state (is_held state && is_open) (is_processing state && stopping)
 same_reason Held is_open stopping = refl
-same_reason Pending is_open stopping = refl
-same_reason Processing is_open stopping = refl
-same_reason Canceled is_open stopping = refl
-same_reason Aborted is_open stopping = refl
-same_reason Completed is_open stopping = refl
+same_reason _ is_open stopping = refl
 
 module _ (at : PlainPlace) (job other : Job) (wanted : Option (List (List ℕ))) where
   -- rows that show the same of both
@@ -89,19 +77,50 @@ group_shown at job wanted = ap (λ attributes. record { tag = 0x02; attributes =
 
 -- ---- it is as told
 
-state_is : (stage : Stage) (s : Standing) → IsAt stage s → s.state ≡ state_told stage
-state_is Waits s at = at.state
-state_is (IsFree device rate units) s at = at.state
-state_is (Prints device rate units since is_canceled) s at = at.state
+-- The job under its number: its name, state, count of documents, impressions, copies and moments
+-- are as told. It is open while it waits for more documents, and stops while a device still prints
+-- it. The impressions that were counted stand as charged at rate 1. What no answer shows is empty.
+abbrev pub job_shown : (number : ℕ) → JobTold → Job
+job_shown number job = record {
+  job = number;
+  name = job.maker.name;
+  password = [];
+  standing = record {
+    state = state_told job.stage;
+    is_open = is_waiting job.stage && job.is_open;
+    stopping = is_stopping job.stage;
+    copies = job.maker.copies;
+    impressions = job.impressions;
+    reserved = 0;
+    charged = count_told job.stage;
+    documents = length job.documents;
+    rate = 1;
+    device = None;
+    created = job.made;
+    started = started_told job.stage;
+    ended = ended_told job.stage;
+  };
+}
+
+-- all jobs of an account, by rising number
+abbrev pub jobs_told : AccountTold → List Job
+jobs_told told = map (λ (job : ℕ × JobTold). job_shown job.0 job.1) (entries told.jobs)
+
+pub state_is : (stage : Stage) (s : Standing) → IsAt stage s → s.state ≡ state_told stage
 state_is (HasEnded how count units since ended) s at = at.state
+state_is _ s at = at.state
 
 not_held : (how : JobState) → has_ended how ≡ true → is_held how ≡ false
 not_held Held over = sym over
 not_held _ over = refl
 
-pub not_processing : (how : JobState) → has_ended how ≡ true → is_processing how ≡ false
+not_processing : (how : JobState) → has_ended how ≡ true → is_processing how ≡ false
 not_processing Processing over = sym over
 not_processing _ over = refl
+
+pub processing_is : (stage : Stage) (s : Standing) → IsAt stage s → is_processing s.state ≡ is_printing stage
+processing_is (HasEnded how count units since ended) s at = ap is_processing at.state ∙ not_processing how at.is_end
+processing_is _ s at = ap is_processing at.state
 
 open_is : (stage : Stage) (s : Standing) (is_open : Bool) → IsAt stage s → (is_unfinished s.state ≡ true → s.is_open ≡ is_open) → (is_held s.state && s.is_open) ≡ (is_waiting stage && is_open)
 open_is Waits s is_open at opens = ap (λ (state : JobState). is_held state && s.is_open) at.state ∙ opens (ap is_unfinished at.state)
@@ -129,23 +148,17 @@ counted charged rate count units is counts = by (units == 0) refl
     by true none = let zero : units ≡ 0 = grind (arith, nat_tests) in ap (λ (n : ℕ). n / rate) (is ∙ zero) ∙ none_counted rate
     by false some = ap (λ (n : ℕ). n / rate) counts ∙ mul-div_cancel count (rated rate count units (sym is ∙ counts) some)
 
-count_is : (stage : Stage) (s : Standing) → IsAt stage s → s.charged / s.rate ≡ count_told stage
-count_is Waits s at = ap (λ (n : ℕ). n / s.rate) at.charged ∙ none_counted s.rate
-count_is (IsFree device rate units) s at = ap (λ (n : ℕ). n / s.rate) at.charged ∙ none_counted s.rate
-count_is (Prints device rate units since is_canceled) s at = ap (λ (n : ℕ). n / s.rate) at.charged ∙ none_counted s.rate
+pub count_is : (stage : Stage) (s : Standing) → IsAt stage s → s.charged / s.rate ≡ count_told stage
 count_is (HasEnded how count units since ended) s at = counted s.charged s.rate count units at.charged at.counted
+count_is _ s at = ap (λ (n : ℕ). n / s.rate) at.charged ∙ none_counted s.rate
 
-started_is : (stage : Stage) (s : Standing) → IsAt stage s → s.started ≡ started_told stage
-started_is Waits s at = at.started
-started_is (IsFree device rate units) s at = at.started
-started_is (Prints device rate units since is_canceled) s at = at.started
+pub started_is : (stage : Stage) (s : Standing) → IsAt stage s → s.started ≡ started_told stage
 started_is (HasEnded how count units since ended) s at = at.started
+started_is _ s at = at.started
 
-ended_is : (stage : Stage) (s : Standing) → IsAt stage s → s.ended ≡ ended_told stage
-ended_is Waits s at = at.ended
-ended_is (IsFree device rate units) s at = at.ended
-ended_is (Prints device rate units since is_canceled) s at = at.ended
+pub ended_is : (stage : Stage) (s : Standing) → IsAt stage s → s.ended ≡ ended_told stage
 ended_is (HasEnded how count units since ended) s at = at.ended
+ended_is _ s at = at.ended
 
 pub shown_as_told : (number : ℕ) (ticket : JobTold) (room : RoomValue) (job : Job) → IsAsTold number ticket room job → as_shown job ≡ job_shown number ticket
 shown_as_told number ticket room job is =
@@ -189,22 +202,23 @@ all_as_told told room stands = same_in_order as_shown job_shown room.jobs told.j
     by number (Some ticket) None are = absurd are
     by number (Some ticket) (Some job) are = ap Some (shown_as_told number ticket room job are)
 
-put_shown : (jobs : List Job) (job : Job) → put_by_end (map as_shown jobs) (as_shown job) ≡ map as_shown (put_by_end jobs job)
-put_shown [] job = refl
-put_shown (other ∷ jobs) job =
-    elim (is_later job other) as (λ b.
-    cond b (as_shown job ∷ as_shown other ∷ map as_shown jobs) (as_shown other ∷ put_by_end (map as_shown jobs) (as_shown job))
-    ≡ map as_shown (cond b (job ∷ other ∷ jobs) (other ∷ put_by_end jobs job)))
-    [ true ↦ refl | false ↦ ap (λ rest. as_shown other ∷ rest) (put_shown jobs job) ]
+-- of whatever shows a job, the latest ended comes first where the latest ended job does
+module _ {X : Type 0} (shown : X → Job) (put : List X → X → List X) (put_first : (x : X) → put [] x ≡ x ∷ []) (put_more : (y : X) (ys : List X) (x : X) → put (y ∷ ys) x ≡ cond (is_later (shown x) (shown y)) (x ∷ y ∷ ys) (y ∷ put ys x)) where
+  put_shown : (ys : List X) (x : X) → put_by_end (map shown ys) (shown x) ≡ map shown (put ys x)
+  put_shown [] x = ap (map shown) (sym (put_first x))
+  put_shown (y ∷ ys) x =
+      elim (is_later (shown x) (shown y)) as (λ b. cond b (shown x ∷ shown y ∷ map shown ys) (shown y ∷ put_by_end (map shown ys) (shown x)) ≡ map shown (cond b (x ∷ y ∷ ys) (y ∷ put ys x)))
+      [ true ↦ refl | false ↦ ap (λ rest. shown y ∷ rest) (put_shown ys x) ]
+      ∙ ap (map shown) (sym (put_more y ys x))
 
-fold_shown : (put jobs : List Job) → fold put_by_end (map as_shown put) (map as_shown jobs) ≡ map as_shown (fold put_by_end put jobs)
-fold_shown put [] = refl
-fold_shown put (job ∷ jobs) = ap (λ put. fold put_by_end put (map as_shown jobs)) (put_shown put job) ∙ fold_shown (put_by_end put job) jobs
+  pub fold_shown : (ys xs : List X) → fold put_by_end (map shown ys) (map shown xs) ≡ map shown (fold put ys xs)
+  fold_shown ys [] = refl
+  fold_shown ys (x ∷ xs) = ap (λ before. fold put_by_end before (map shown xs)) (put_shown ys x) ∙ fold_shown (put ys x) xs
 
 chosen_shown : (which : Which) (jobs : List Job) → chosen which (map as_shown jobs) ≡ map as_shown (chosen which jobs)
 chosen_shown whiches.NotCompleted jobs = filter_changed as_shown (λ (job : Job). is_unfinished job.standing.state) jobs
 chosen_shown whiches.Completed jobs =
-    ap (fold put_by_end []) (filter_changed as_shown (λ (job : Job). not (is_unfinished job.standing.state)) jobs) ∙ fold_shown [] (filter (λ (job : Job). not (is_unfinished job.standing.state)) jobs)
+    ap (fold put_by_end []) (filter_changed as_shown (λ (job : Job). not (is_unfinished job.standing.state)) jobs) ∙ fold_shown as_shown put_by_end (λ _. refl) (λ _ _ _. refl) [] (filter (λ (job : Job). not (is_unfinished job.standing.state)) jobs)
 
 first_jobs_shown : (most : Option ℕ) (jobs : List Job) → first_jobs most (map as_shown jobs) ≡ map as_shown (first_jobs most jobs)
 first_jobs_shown None jobs = refl

@@ -1,7 +1,9 @@
 -- A request asks what its bytes spell.
-use Rattle.std.proofs.Common.{◌≡◌, ℕ, Bool, true, false, true≢false, cond, ◌==◌, List, [], ◌∷◌, ◌++◌, drop, length, nat_lt, Option, Some, None, is_none, is_some, unwrap_or, Ok, refl, sym, ap, subst, ◌∙◌}
-use Rattle.std.proofs.lemmas.Bool.{and_parts, eqb-true, not-false}
+use Rattle.std.proofs.Common.{◌≡◌, ◌⊎◌, inl, inr, ℕ, ◌≤◌, Bool, true, false, true≢false, cond, ◌==◌, codes, List, [], ◌∷◌, drop, length, nat_lt, Option, Some, None, is_none, is_some, unwrap_or, Ok, refl, sym, ap, subst, ◌∙◌}
+use Rattle.std.specs.Str.{bytes_eq}
+use Rattle.std.proofs.lemmas.Bool.{and_parts, eqb-true, ltb-false, not-false, or_cases}
 use Rattle.std.proofs.lemmas.Option.{none-some, same_Some}
+use Rattle.std.proofs.lemmas.Slice.Eq.{bytes_eq-Decides}
 use Rattle.ipp_coding.proofs.Wholes.{message_again, message_spells}
 use Rattle.ipp_coding.specs.Plain.{PlainAttribute, PlainGroup, PlainMessage}
 use Rattle.ipp_coding.proofs.Steps.{bind_gave}
@@ -9,50 +11,97 @@ use Rattle.ipp_coding.specs.Limits.{header_length}
 use Rattle.ipp_coding.specs.Reading.{◌>>=◌, groups_at, header_at, header_in, message_of, payload_at}
 use Rattle.ipp_coding.specs.declared.message.Header.{Header}
 use Rattle.account_asks.specs.Asks.{PlainAsk, ask_of, asked, read_as}
-use Rattle.account_asks.specs.CheckOrder.{attribute_checks, checks, document_checks, field_checks, header_checks, message_checks, message_or_nothing, opening_checks, target_checks}
-use Rattle.account_asks.specs.Checks.{begins_well, malformed_check, named_target}
-use Rattle.account_asks.specs.Fields.{any_is_wrong, document_format, fidelity, fields_of, which_jobs}
-use Rattle.account_asks.specs.Operations.{operation_of, operation_with}
+use Rattle.account_asks.specs.CheckOrder.{checks}
+use Rattle.account_asks.specs.Checks.{begins_well, is_utf_8}
+use Rattle.account_asks.specs.Fields.{fidelity, fields_of, is_none_if_said, job_name, last_document, password, wanted}
+use Rattle.account_asks.specs.Operations.{describes_document, hands_in_document, is_get_jobs, is_send_document, lists_attributes, makes_job, operation_of}
 use Rattle.account_asks.specs.Refusals.{first_refusal}
-use Rattle.account_asks.specs.Requests.{charset_first, language_second, operation_attributes, operation_group_of}
-use Rattle.account_asks.specs.Targets.{reached, target_in}
-use Rattle.account_asks.specs.Templates.{template_attributes, unsupported}
+use Rattle.account_asks.specs.Requests.{charset_first, is_served_version, language_second, operation_attributes, operation_group_of, single_if_named, single_under}
+use Rattle.account_asks.specs.Templates.{copies, template_attributes, unsupported}
+use Rattle.account_asks.specs.declared.ask.Which.{Which}
+use Rattle.account_asks.specs.declared.ask.Which.TheVariants.{NotCompleted}
 use Rattle.account_asks.specs.declared.operation.Operation.{Operation}
-use Rattle.account_asks.specs.declared.operation.Operation.TheVariants as asks
-use Rattle.account_laws.proofs.AsksWithin.{each_passes, fields_checked, earlier_pass, later_pass, passed, target_checked}
+use Rattle.account_laws.proofs.FirstFound.{passed, second_false}
+use Rattle.account_laws.proofs.NamedTargets.{is_for, single_is}
+use Rattle.account_laws.proofs.PassedChecks.{Passes, all_pass, nothing_asked}
+use Rattle.account_laws.proofs.ServedIds.{code_is, served_is}
 use Rattle.account_laws.proofs.SpelledAttributes.{AreGroupsOf, AreOf, message_bytes}
-use Rattle.account_laws.proofs.SpelledFields.{are_well, copies_are_said, format_is_said, impressions_said, is_named, last_said, limit_said, password_said, template_is, wanted_said, which_said}
-use Rattle.account_laws.proofs.SpelledTargets.{is_for}
-use Rattle.account_laws.proofs.SpelledTemplates.{none_back, unsupported_back}
+use Rattle.account_laws.proofs.SpelledFields.{Groups, boolean_in, boolean_or, bytes_in, copies_are_said, encryption_told, format_is_said, impressions_said, insisted, is_named, job_group_is, last_said, limit_said, none_said, password_said, some_of, wanted_said, which_said}
+use Rattle.account_laws.proofs.SpelledOperations.{AllWell, SaysEach, SaysLast, all_said, are_well, compression_as, encryption_as, fidelity_as, format_as, groups_seen, impressions_as, last_as, last_is_well, limit_as_seen, missing_as, name_as, password_as, seen, seen_of, template_as, wanted_as, which_as}
+use Rattle.account_laws.proofs.SpelledTemplates.{unsupported_back}
 use Rattle.account_laws.specs.AsksLieWithin.{AreBytes}
-use Rattle.account_laws.specs.SpelledAsks.{AsksAreSpelled, IsReadOff, IsSpelled}
+use Rattle.account_laws.specs.SpelledAsks.{AsksAreSpelled, HasCharset, IsServed, IsSpelled, OfMessage, one_value}
+use Rattle.account_laws.specs.SpelledAttributes.{IsBoolean, IsInteger, IsLimit, IsMediaType, IsUnder, IsWhich, SaysOr}
+use Rattle.account_laws.specs.SpelledFields.{DescribesDocument, DescribesJob, DescribesList, HandsInDocument, SaysName, SaysNames, SaysPassword, SaysTemplate}
+use Rattle.account_rules.specs.Limits.{longest_document, longest_job_name, longest_password}
+use Rattle.account_rules.specs.declared.format.Format.{Format}
+use Rattle.account_rules.specs.declared.format.Format.TheVariants.{OctetStream}
 
 -- ---- how the message begins
 
-abbrev first_attributes : List PlainGroup → List PlainAttribute
+abbrev pub first_attributes : List PlainGroup → List PlainAttribute
 first_attributes groups = unwrap_or (operation_group_of groups) []
 
-record Begins (groups : List PlainGroup) : Type 0 where
-  pub further : List PlainGroup
-  pub are : groups ≡ record { tag = 0x01; attributes = first_attributes groups } ∷ further
-  pub are_of : AreOf (first_attributes groups)
-
-begins : (groups : List PlainGroup) → AreGroupsOf groups → is_some (charset_first (first_attributes groups)) ≡ true → Begins groups
-begins [] are first = absurd (true≢false (sym first))
-begins (g ∷ further) are first = by (g.tag == 1) refl first
+-- those of the first group are of bytes
+pub first_of : (groups : List PlainGroup) → AreGroupsOf groups → AreOf (unwrap_or (operation_group_of groups) [])
+first_of [] are = tt
+first_of (g ∷ further) are = by (g.tag == 1)
   where
-    by : (b : Bool) → (g.tag == 1) ≡ b → is_some (charset_first (unwrap_or (cond b (Some g.attributes) None) [])) ≡ true → Begins (g ∷ further)
-    by true is first =
-        let same : first_attributes (g ∷ further) ≡ g.attributes = ap (λ (b : Bool). unwrap_or (cond b (Some g.attributes) None) []) is in
-        record {
-          further = further;
-          are = ap (λ (tag : ℕ). record { tag = tag; attributes = g.attributes } ∷ further) (eqb-true g.tag 1 is) ∙ ap (λ (attributes : List PlainAttribute). record { tag = 0x01; attributes = attributes } ∷ further) (sym same);
-          are_of = subst AreOf (sym same) are.0;
-        }
-    by false isnt first = absurd (true≢false (sym first))
+    by : (b : Bool) → AreOf (unwrap_or (cond b (Some g.attributes) None) [])
+    by true = are.0
+    by false = tt
+
+-- which is 0x01
+pub first_group : (groups : List PlainGroup) → begins_well (first_attributes groups) ≡ true → (further : List PlainGroup) × (groups ≡ record { tag = 0x01; attributes = first_attributes groups } ∷ further)
+first_group [] well = absurd (true≢false (sym well))
+first_group (g ∷ further) well = by (g.tag == 1) refl well
+  where
+    by : (b : Bool) → (g.tag == 1) ≡ b → begins_well (unwrap_or (cond b (Some g.attributes) None) []) ≡ true → (rest : List PlainGroup) × (g ∷ further ≡ record { tag = 0x01; attributes = first_attributes (g ∷ further) } ∷ rest)
+    by true is well = (
+      further,
+      ap (λ (tag : ℕ). record { tag = tag; attributes = g.attributes } ∷ further) (eqb-true g.tag 1 is)
+          ∙ ap (λ (attributes : List PlainAttribute). record { tag = 0x01; attributes = attributes } ∷ further) (sym (ap (λ (b : Bool). unwrap_or (cond b (Some g.attributes) None) []) is)),
+    )
+    by false isnt well = absurd (true≢false (sym well))
+
+-- an attribute with a name and one value
+one_is : (name : List ℕ) (tag : ℕ) (a : PlainAttribute) (bytes : List ℕ) → single_if_named name tag a ≡ Some bytes → a ≡ one_value name tag bytes
+one_is name tag a bytes said = by (bytes_eq a.name name) refl said
+  where
+    by : (b : Bool) → bytes_eq a.name name ≡ b → cond b (single_under tag a) None ≡ Some bytes → a ≡ one_value name tag bytes
+    by true same said =
+        let named = (bytes_eq-Decides a.name name).0 same in
+        let one = single_is tag a bytes said in
+        let value : one.0 ∷ [] ≡ record { tag = tag; bytes = bytes } ∷ [] = λ i. record { tag = one.1.1.0 i; bytes = one.1.1.1 i } ∷ [] in
+        let values = one.1.0 ∙ value in
+        λ i. record { name = named i; values = values i }
+    by false other said = absurd (none-some bytes said)
+
+pub record Opens (attributes : List PlainAttribute) : Type 0 where
+  pub charset : List ℕ
+  pub found : charset_first attributes ≡ Some charset
+  pub has : HasCharset charset attributes
+
+pub opens : (attributes : List PlainAttribute) → begins_well attributes ≡ true → Opens attributes
+opens [] well = absurd (true≢false (sym well))
+opens (a ∷ []) well = let both = and_parts (is_some (charset_first (a ∷ []))) (is_some (language_second (a ∷ []))) well in absurd (true≢false (sym both.1))
+opens (a ∷ b ∷ later) well =
+    let both = and_parts (is_some (charset_first (a ∷ b ∷ later))) (is_some (language_second (a ∷ b ∷ later))) well in
+    let charset = some_of (single_if_named (codes "attributes-charset") 0x47 a) both.0 in
+    let language = some_of (single_if_named (codes "attributes-natural-language") 0x48 b) both.1 in
+    record {
+      charset = charset.0;
+      found = charset.1;
+      has = record {
+        language = language.0;
+        later = later;
+        are = ap (λ (x : PlainAttribute). x ∷ b ∷ later) (one_is (codes "attributes-charset") 0x47 a charset.0 charset.1)
+            ∙ ap (λ (x : PlainAttribute). one_value (codes "attributes-charset") 0x47 charset.0 ∷ x ∷ later) (one_is (codes "attributes-natural-language") 0x48 b language.0 language.1);
+      };
+    }
 
 -- its header is the one that the bytes begin with
-header_of : (body : List ℕ) (m : PlainMessage) → message_of body ≡ Some m → m.header ≡ header_in body
+pub header_of : (body : List ℕ) (m : PlainMessage) → message_of body ≡ Some m → m.header ≡ header_in body
 unfolding message_of
 header_of body m is =
     let a = bind_gave (header_at body) (λ (header : Header). groups_at (drop header_length body) >>= λ (groups : List PlainGroup × List ℕ). payload_at groups.1 >>= λ (payload : List ℕ). Some (record { header = header; groups = groups.0; payload = payload })) m is in
@@ -64,110 +113,135 @@ header_of body m is =
     from_header true h is = absurd (none-some h is)
     from_header false h is = sym (same_Some (header_in body) h is)
 
--- ---- the checks, one by one
+-- ---- the header
 
-record Passes (account : List ℕ) (header : Header) (m : PlainMessage) : Type 0 where
-  pub served : is_none (operation_with header.code) ≡ false
-  pub begins_so : is_some (charset_first (operation_attributes m)) ≡ true
-  pub named : is_none (target_in (operation_of header) (operation_attributes m)) ≡ false
-  pub leads : is_none (reached account (named_target (operation_of header) (operation_attributes m))) ≡ false
-  pub well : any_is_wrong (operation_of header) (operation_attributes m) ≡ false
-  pub format : is_none (document_format (operation_of header) (operation_attributes m)) ≡ false
-  pub which : is_none (which_jobs (operation_of header) (operation_attributes m)) ≡ false
+pub version_is : (header : Header) → is_served_version header ≡ true → IsServed header
+version_is header served = by (or_cases (header.major == 1) (header.major == 2) served)
+  where
+    by : ((header.major == 1) ≡ true) ⊎ ((header.major == 2) ≡ true) → IsServed header
+    by (inl one) = inl (eqb-true header.major 1 one)
+    by (inr two) = inr (eqb-true header.major 2 two)
 
-begins_there : (attributes : List PlainAttribute) → begins_well attributes ≡ true → is_some (charset_first attributes) ≡ true
-begins_there attributes well = (and_parts (is_some (charset_first attributes)) (is_some (language_second attributes)) well).0
+-- ---- what it says
 
-opening_passes : (account : List ℕ) (operation : Operation) (m : PlainMessage) → first_refusal (message_checks account operation m) ≡ None → begins_well (operation_attributes m) ≡ true
-unfolding message_checks attribute_checks opening_checks
-opening_passes account operation m none =
-    let attributes = operation_attributes m in
-    let those = earlier_pass (attribute_checks account operation attributes) (document_checks operation (fidelity operation attributes) (unsupported (template_attributes operation m)) m.payload) none in
-    let first = earlier_pass (opening_checks attributes) (target_checks account operation attributes ++ field_checks operation attributes) those in
-    not-false (begins_well attributes) (each_passes (opening_checks attributes) first).0
+module _ (account : List ℕ) (header : Header) (operation : Operation) (m : PlainMessage) (are : AreGroupsOf m.groups) (are_of : AreOf (operation_attributes m)) (passes : Passes account header operation m) where
+  well : AllWell operation (operation_attributes m)
+  well = are_well operation (operation_attributes m) passes.well
 
-target_passes : (account : List ℕ) (operation : Operation) (attributes : List PlainAttribute) → first_refusal (target_checks account operation attributes) ≡ None → (is_none (target_in operation attributes) ≡ false) × (is_none (reached account (named_target operation attributes)) ≡ false)
-unfolding target_checks
-target_passes account operation attributes none = let each = each_passes (target_checks account operation attributes) none in (each.0, each.1.1.0)
+  -- what is seen of them by whether they are read
+  are_seen : (reads : Bool) → AreOf (seen reads (operation_attributes m))
+  are_seen reads = seen_of reads (operation_attributes m) are_of
 
-field_passes : (operation : Operation) (attributes : List PlainAttribute) → first_refusal (field_checks operation attributes) ≡ None
-    → (any_is_wrong operation attributes ≡ false) × ((is_none (document_format operation attributes) ≡ false) × (is_none (which_jobs operation attributes) ≡ false))
-unfolding field_checks
-field_passes operation attributes none = let each = each_passes (field_checks operation attributes) none in (each.0, (each.1.1.0, each.1.1.1.0))
+  says_password : SaysPassword (seen (makes_job operation) (operation_attributes m)) (password operation (operation_attributes m))
+  says_password =
+      let attributes = operation_attributes m in
+      let those = seen (makes_job operation) attributes in
+      let encryption = none_said (codes "job-password-encryption") those (are_seen (makes_job operation)) well.job.encryption (not-false (is_none_if_said (bytes_in (codes "job-password-encryption") those)) (sym (encryption_as operation attributes) ∙ passes.encryption)) in
+      record {
+        is_said = subst (SaysOr (IsUnder 0x30) [] (codes "job-password") those) (sym (password_as operation attributes)) (password_said those (are_seen (makes_job operation)) well.job);
+        fits = ltb-false longest_password (length (password operation attributes)) passes.password_fits;
+        encryption = encryption;
+        told = encryption_told those (password operation attributes) encryption (sym (missing_as operation attributes) ∙ passes.told);
+      }
 
-all_pass : (account : List ℕ) (header : Header) (m : PlainMessage) → first_refusal (checks account header (Some m)) ≡ None → Passes account header m
-all_pass account header m none =
-    let operation = operation_of header in
-    let attributes = operation_attributes m in
-    let header_passes = each_passes (header_checks header) (earlier_pass (header_checks header) (malformed_check (Some m) ∷ message_checks account operation m) none) in
-    let message = later_pass (malformed_check (Some m) ∷ []) (message_checks account operation m) (later_pass (header_checks header) (malformed_check (Some m) ∷ message_checks account operation m) none) in
-    let target = target_passes account operation attributes (target_checked account operation m message) in
-    let field = field_passes operation attributes (fields_checked account operation m message) in
-    record {
-      served = header_passes.1.0;
-      begins_so = begins_there attributes (opening_passes account operation m message);
-      named = target.0;
-      leads = target.1;
-      well = field.0;
-      format = field.1.0;
-      which = field.1.1;
-    }
+  says_template : SaysTemplate (seen (makes_job operation) m.groups) (seen (makes_job operation) (operation_attributes m)) (copies (template_attributes operation m)) (unsupported (template_attributes operation m))
+  says_template =
+      let attributes = operation_attributes m in
+      let those = seen (makes_job operation) attributes in
+      let template = subst (Groups (seen (makes_job operation) m.groups)) (sym (template_as operation m)) (job_group_is (seen (makes_job operation) m.groups) (groups_seen (makes_job operation) m.groups are)) in
+      record {
+        template = template_attributes operation m;
+        is_template = template.are;
+        copies_said = copies_are_said (template_attributes operation m) template.are_of;
+        go_back = unsupported_back (template_attributes operation m) template.are_of;
+        insists = fidelity operation attributes;
+        fidelity = subst (SaysOr IsBoolean false (codes "ipp-attribute-fidelity") those) (sym (fidelity_as operation attributes)) (boolean_or (codes "ipp-attribute-fidelity") those (are_seen (makes_job operation)) well.job.fidelity);
+        all_supported = insisted (fidelity operation attributes) (unsupported (template_attributes operation m)) passes.template;
+      }
+
+  says_job : DescribesJob (seen (makes_job operation) m.groups) (seen (makes_job operation) (operation_attributes m)) (asked account header operation m)
+  unfolding asked fields_of
+  says_job =
+      let attributes = operation_attributes m in
+      let those = seen (makes_job operation) attributes in
+      let same = name_as operation attributes in
+      let short = subst (λ (name : List ℕ). length name ≤ 255) same (ltb-false longest_job_name (length (job_name operation attributes)) passes.name_fits) in
+      record {
+        name = subst (SaysName those) (sym same) (is_named those (are_seen (makes_job operation)) well.job short);
+        password = says_password;
+        impressions = subst (SaysOr IsInteger 0 (codes "job-impressions") those) (sym (impressions_as operation attributes)) (impressions_said those (are_seen (makes_job operation)) well.job);
+        template = says_template;
+      }
+
+  says_document : DescribesDocument (seen (describes_document operation) (operation_attributes m)) (asked account header operation m)
+  unfolding asked fields_of
+  says_document =
+      let attributes = operation_attributes m in
+      let those = seen (describes_document operation) attributes in
+      let same = format_as operation attributes in
+      record {
+        format = subst (λ (format : Option Format). SaysOr IsMediaType OctetStream (codes "document-format") those (unwrap_or format OctetStream)) (sym same) (format_is_said those (are_seen (describes_document operation)) well.document (ap is_none (sym same) ∙ passes.format));
+        compression = none_said (codes "compression") those (are_seen (describes_document operation)) well.document.compression (not-false (is_none_if_said (bytes_in (codes "compression") those)) (sym (compression_as operation attributes) ∙ passes.compression));
+      }
+
+  hands_in : hands_in_document operation ≡ true → HandsInDocument (asked account header operation m)
+  unfolding asked
+  hands_in hands = ltb-false longest_document (length m.payload) (second_false (hands_in_document operation) (nat_lt longest_document (length m.payload)) passes.document hands)
+
+  says_last : SaysLast (is_send_document operation) (operation_attributes m) (last_document operation (operation_attributes m))
+  says_last = subst (SaysLast (is_send_document operation) (operation_attributes m)) (sym (last_as operation (operation_attributes m))) (by (is_send_document operation) well.last)
+    where
+      by : (reads : Bool) → last_is_well reads (operation_attributes m) ≡ true → SaysLast reads (operation_attributes m) (boolean_in (codes "last-document") (seen reads (operation_attributes m)))
+      by true there = last_said (operation_attributes m) are_of there
+      by false there = refl
+
+  says_list : DescribesList (seen (is_get_jobs operation) (operation_attributes m)) (asked account header operation m)
+  unfolding asked fields_of
+  says_list =
+      let attributes = operation_attributes m in
+      let those = seen (is_get_jobs operation) attributes in
+      let same = which_as operation attributes in
+      record {
+        which = subst (λ (which : Option Which). SaysOr IsWhich NotCompleted (codes "which-jobs") those (unwrap_or which NotCompleted)) (sym same) (which_said those (are_seen (is_get_jobs operation)) well.list (ap is_none (sym same) ∙ passes.which));
+        limit = subst (SaysOr IsLimit None (codes "limit") those) (sym (limit_as_seen operation attributes)) (limit_said those (are_seen (is_get_jobs operation)) well.list);
+        mine = boolean_in (codes "my-jobs") those;
+        my_jobs = boolean_or (codes "my-jobs") those (are_seen (is_get_jobs operation)) well.list.mine;
+      }
+
+  says_names : SaysNames (seen (lists_attributes operation) (operation_attributes m)) (wanted operation (operation_attributes m))
+  says_names = subst (SaysNames (seen (lists_attributes operation) (operation_attributes m))) (sym (wanted_as operation (operation_attributes m))) (wanted_said (seen (lists_attributes operation) (operation_attributes m)) (are_seen (lists_attributes operation)) well.names)
+
+  says : SaysEach operation m.groups (operation_attributes m) (asked account header operation m)
+  unfolding asked fields_of
+  says = record { job = says_job; document = says_document; handed_in = hands_in; last = says_last; list = says_list; names = says_names }
 
 -- ---- the whole
 
-served_is : (header : Header) → is_none (operation_with header.code) ≡ false → operation_with header.code ≡ Some (operation_of header)
-served_is header served = by (operation_with header.code) refl served
-  where
-    by : (o : Option Operation) → operation_with header.code ≡ o → is_none o ≡ false → operation_with header.code ≡ Some (unwrap_or (operation_with header.code) asks.PrintJob)
-    by None is served = absurd (true≢false served)
-    by (Some operation) is served = is ∙ ap (λ (o : Option Operation). Some (unwrap_or o asks.PrintJob)) (sym is)
-
-is_spelled : (account : List ℕ) (header : Header) (m : PlainMessage) → m.header ≡ header → AreGroupsOf m.groups → Passes account header m → IsSpelled account m (asked account header (operation_of header) m)
-unfolding asked fields_of
+is_spelled : (account : List ℕ) (header : Header) (m : PlainMessage) → m.header ≡ header → AreGroupsOf m.groups → Passes account header (operation_of header) m → IsSpelled account m (asked account header (operation_of header) m)
+unfolding asked
 is_spelled account header m same are passes =
     let operation = operation_of header in
     let attributes = operation_attributes m in
-    let start = begins m.groups are passes.begins_so in
-    let well = are_well operation attributes passes.well in
+    let well = not-false (begins_well attributes) passes.begins_so in
+    let first = first_group m.groups well in
+    let are_of = first_of m.groups are in
+    let start = opens attributes well in
     record {
       header = sym same;
-      operation = ap (λ (h : Header). operation_with h.code) same ∙ served_is header passes.served;
+      version = subst IsServed (sym same) (version_is header (not-false (is_served_version header) passes.version));
+      operation = ap (λ (h : Header). h.code) same ∙ code_is header.code operation (served_is header passes.served);
       attributes = attributes;
-      further = start.further;
-      groups = start.are;
+      begins = record { further = first.0; groups = first.1 };
+      charset = start.charset;
+      has_charset = start.has;
+      is_utf_8 = ap is_utf_8 (sym start.found) ∙ not-false (is_utf_8 (charset_first attributes)) passes.utf_8;
       payload = refl;
-      target = is_for operation account attributes start.are_of passes.named passes.leads;
-      job = λ makes.
-          let name = is_named operation attributes start.are_of well makes in
-          let template = template_is operation m are makes in
-          record {
-            given = name.given;
-            is_given = name.is_given;
-            name = name.is;
-            password = password_said operation attributes start.are_of well makes;
-            impressions = impressions_said operation attributes start.are_of well makes;
-            template = template_attributes operation m;
-            is_template = template.are;
-            copies = copies_are_said (template_attributes operation m) template.are_of;
-            unsupported = unsupported_back (template_attributes operation m) template.are_of;
-          };
-      no_job = λ none. none_back operation m none;
-      format = λ describes. format_is_said operation attributes start.are_of well passes.format describes;
-      last = λ sends. last_said operation attributes start.are_of well sends;
-      which = λ gets. which_said operation attributes start.are_of well passes.which gets;
-      limit = λ gets. limit_said operation attributes start.are_of well gets;
-      wanted = λ lists. wanted_said operation attributes start.are_of well lists;
+      target = is_for account operation attributes are_of passes.named passes.short passes.leads;
+      says = all_said operation m.groups attributes (asked account header operation m) (says account header operation m are are_of passes);
     }
 
-malformed_none : (account : List ℕ) (header : Header) (ask : PlainAsk) → read_as account header None ≡ Ok ask → ⊥
-malformed_none account header ask reads =
-    let m = message_or_nothing header None in
-    let both = passed (first_refusal (checks account header None)) (asked account header (operation_of header) m) ask reads in
-    let first = later_pass (header_checks header) (malformed_check None ∷ message_checks account (operation_of header) m) both.0 in
-    true≢false (each_passes (malformed_check None ∷ message_checks account (operation_of header) m) first).0
-
-read_off : (account body : List ℕ) (ask : PlainAsk) → AreBytes body → (message : Option PlainMessage) → message_of body ≡ message → read_as account (header_in body) message ≡ Ok ask → IsReadOff account body ask
-read_off account body ask are None none reads = absurd (malformed_none account (header_in body) ask reads)
+read_off : (account body : List ℕ) (ask : PlainAsk) → AreBytes body → (message : Option PlainMessage) → message_of body ≡ message → read_as account (header_in body) message ≡ Ok ask → OfMessage body (λ m. IsSpelled account m ask)
+read_off account body ask are None none reads = absurd (nothing_asked account (header_in body) ask reads)
 read_off account body ask are (Some m) is reads =
     let header = header_in body in
     let spells = message_spells body m are is in
@@ -176,7 +250,7 @@ read_off account body ask are (Some m) is reads =
       message = m;
       spells = spells;
       is_one = λ other spelled. same_Some other m (sym (message_again other body spelled) ∙ is);
-      is_spelled = subst (IsSpelled account m) both.1 (is_spelled account header m (header_of body m is) (message_bytes m body are spells) (all_pass account header m both.0));
+      holds = subst (IsSpelled account m) both.1 (is_spelled account header m (header_of body m is) (message_bytes m body are spells) (all_pass account header m both.0));
     }
 
 pub asks_are_spelled : AsksAreSpelled

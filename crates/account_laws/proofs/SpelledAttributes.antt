@@ -10,7 +10,7 @@ use Rattle.std.proofs.lemmas.Nat.{be_bytes_4}
 use Rattle.std.proofs.lemmas.Option.{none-some, same_Some}
 use Rattle.std.proofs.lemmas.Slice.Eq.{bytes_eq-Decides}
 use Rattle.ipp_coding.proofs.Fields.{IsBytes, IsBytes-drop, IsBytes-tail, IsBytes-take}
-use Rattle.ipp_coding.proofs.Texts.{text_found}
+use Rattle.ipp_coding.proofs.Texts.{text_again, text_found}
 use Rattle.ipp_coding.specs.Plain.{PlainAttribute, PlainGroup, PlainMessage, PlainValue}
 use Rattle.ipp_coding.specs.Reading.{header_in}
 use Rattle.ipp_coding.specs.Spelling.{Spells, attribute_spelling, field_spelling, first_spelling, further_spelling, group_spelling, header_spelling, values_spelling}
@@ -96,6 +96,15 @@ again name values (a ∷ earlier) later first = by (bytes_eq a.name name) refl (
 pub found_again : (name : List ℕ) (attributes : List PlainAttribute) (values : List PlainValue) → HasValues name attributes values → named name attributes ≡ Some (record { name = name; values = values })
 found_again name attributes values has = ap (named name) has.stands ∙ again name values has.earlier has.later has.is_first
 
+-- what is absent is not found
+pub none_again : (name : List ℕ) (attributes : List PlainAttribute) → HasNone name attributes → named name attributes ≡ None
+none_again name [] none = refl
+none_again name (a ∷ attributes) none = by (bytes_eq a.name name) refl (none_again name attributes none.1)
+  where
+    by : (b : Bool) → bytes_eq a.name name ≡ b → named name attributes ≡ None → cond b (Some a) (named name attributes) ≡ None
+    by true same rest = absurd (none.0 ((bytes_eq-Decides a.name name).0 same))
+    by false other rest = rest
+
 -- ---- the one value of an attribute
 
 pub one_of : (values : List PlainValue) (value : PlainValue) → lone_value values ≡ Some value → values ≡ value ∷ []
@@ -134,6 +143,9 @@ is_number value z said = by (value.tag == 0x21) refl (is_number_tag value.tag) (
 
 pub integer_tag : (value : PlainValue) (z : ℤ) → integer_said value ≡ Some z → value.tag ≡ 0x21
 integer_tag value z said = (is_number value z said).tag
+
+pub integer_four : (value : PlainValue) (z : ℤ) → integer_said value ≡ Some z → length value.bytes ≡ 4
+integer_four value z said = (is_number value z said).long
 
 positive_is : (number n : ℕ) → cast_signed w32 number ≡ pos n → (number ≡ n) × (number < 2 ^ 31)
 positive_is number n is = by (nat_lt number (2 ^ 31)) refl is
@@ -206,6 +218,13 @@ boolean_is value b said = by (value.tag == 0x22) refl said
     by true tag said = (eqb-true value.tag 0x22 tag, bool_bytes value.bytes b said)
     by false tag said = absurd (none-some b said)
 
+bool_byte : (b : Bool) → bool_in (cond b 1 0 ∷ []) ≡ Some b
+bool_byte true = refl
+bool_byte false = refl
+
+pub boolean_again : (value : PlainValue) (b : Bool) → IsBoolean value b → bool_said value ≡ Some b
+boolean_again value b is = ap (λ (tag : ℕ). bool_said (record { tag = tag; bytes = value.bytes })) is.0 ∙ ap bool_in is.1 ∙ bool_byte b
+
 -- a name
 pub name_is : (value : PlainValue) (text : List ℕ) → IsOf value → name_said value ≡ Some text → IsName value text
 name_is value text are said = by (value.tag == 0x42) refl (value.tag == 0x36) refl
@@ -218,3 +237,7 @@ name_is value text are said = by (value.tag == 0x42) refl (value.tag == 0x36) re
         let same = eqb-true value.tag 0x36 tag in
         inr (same, text_found value.bytes text are (sym (ap (λ (tag : ℕ). name_said (record { tag = tag; bytes = value.bytes })) same) ∙ said))
     by false plain false tag = absurd (none-some text (sym (ap (λ (b : Bool). cond b (text_said value) None) (ap (λ (b : Bool). b || value.tag == 0x36) plain ∙ tag)) ∙ said))
+
+pub name_again : (value : PlainValue) (text : List ℕ) → IsName value text → name_said value ≡ Some text
+name_again value text (inl is) = ap (λ (tag : ℕ). name_said (record { tag = tag; bytes = value.bytes })) is.0 ∙ ap (λ (bytes : List ℕ). name_said (record { tag = 0x42; bytes = bytes })) is.1
+name_again value text (inr is) = ap (λ (tag : ℕ). name_said (record { tag = tag; bytes = value.bytes })) is.0 ∙ text_again value.bytes text is.1

@@ -1,98 +1,77 @@
--- What the operation attributes say to an operation that reads them.
-use Rattle.std.proofs.Common.{◌≡◌, ◌≢◌, ◌⊎◌, inl, inr, ℕ, suc, ◌≤◌, Bool, true, false, true≢false, cond, not, ◌&&◌, ◌||◌, ◌==◌, nat_le, codes, map, List, [], ◌∷◌, ◌++◌, Option, Some, None, is_none, is_some, option_and_then, option_map, unwrap_or, refl, sym, ap, subst, ◌∙◌}
-use Rattle.std.specs.List.{AllByRecursion, find, list_all, list_any, position}
-use Rattle.std.specs.Str.{bytes_eq}
-use Rattle.std.proofs.lemmas.Bool.{and_parts, eqb-false, eqb-true, le-leb, leb-true, not-false}
+-- What the operation attributes say, as they are read.
+use Rattle.std.proofs.Common.{◌≡◌, ◌≢◌, ◌⊎◌, inl, inr, ℕ, suc, ◌≤◌, Bool, true, false, true≢false, cond, not, ◌&&◌, ◌==◌, nat_le, codes, length, map, List, [], ◌∷◌, ◌++◌, Option, Some, None, is_none, is_some, option_and_then, option_map, unwrap_or, refl, sym, ap, subst, ◌∙◌, arith}
+use Rattle.std.specs.List.{AllByRecursion, find, list_all, position}
+use Rattle.std.specs.Str.{bytes_eq, str_eq_ignore_ascii_case}
+use Rattle.std.proofs.lemmas.Bool.{and_parts, eqb-false, eqb-true, le-leb, leb-true}
 use Rattle.std.proofs.lemmas.Option.{none-some, same_Some}
 use Rattle.std.proofs.lemmas.Slice.Eq.{bytes_eq-Decides}
-use Rattle.ipp_coding.specs.Plain.{PlainAttribute, PlainGroup, PlainMessage, PlainValue}
+use Rattle.ipp_coding.specs.Plain.{PlainAttribute, PlainGroup, PlainValue}
 use Rattle.ipp_coding.specs.Values.{bool_said}
-use Rattle.account_asks.specs.Fields.{any_is_wrong, all_fields, document_format, format_said, impressions, is_wrong, job_name, last_document, limit, names_of, password, unless_empty, value_of, values_of, wanted, which_jobs, which_named, without_parameters}
-use Rattle.account_asks.specs.Operations.{describes_document, is_get_jobs, is_send_document, lists_attributes, makes_job}
+use Rattle.account_asks.specs.Checks.{is_empty, some_attribute}
+use Rattle.account_asks.specs.Fields.{format_said, is_none_if_said, names_of, password, unless_empty, which_named, without_parameters}
 use Rattle.account_asks.specs.Requests.{job_group_of, lone_value, named, up_to}
 use Rattle.account_asks.specs.Syntaxes.{count_said, name_said, positive_said}
-use Rattle.account_asks.specs.Templates.{copies, copies_said, template_attributes, up_to_most}
+use Rattle.account_asks.specs.Templates.{copies, copies_said, up_to_most}
 use Rattle.account_asks.specs.declared.ask.Which.{Which}
 use Rattle.account_asks.specs.declared.ask.Which.TheVariants.{NotCompleted, Completed}
-use Rattle.account_asks.specs.declared.operation.Operation.{Operation}
-use Rattle.account_laws.proofs.SpelledAttributes.{AreGroupsOf, AreOf, Finds, IsOf, boolean_is, count_is, finds, found_again, is_under, name_is, one_of, positive_again, positive_said_is}
-use Rattle.account_laws.specs.SpelledAsks.{AreCopies, SaysCopies, SaysNames, or_untitled}
-use Rattle.account_laws.specs.SpelledAttributes.{AreOfJob, HasNone, HasValues, IsBoolean, IsInteger, IsLimit, IsMediaType, IsName, IsUnder, IsWhich, Says, SaysOr, which_keyword}
-use Rattle.account_rules.specs.Formats.{format_named, formats, names_format}
+use Rattle.account_laws.proofs.SpelledAttributes.{AreGroupsOf, AreOf, Finds, IsOf, boolean_is, count_is, finds, found_again, is_under, name_is, none_again, one_of, positive_again, positive_said_is}
+use Rattle.account_laws.specs.SpelledAttributes.{AreOfJob, HasNone, HasValues, IsBoolean, IsInteger, IsLimit, IsMediaType, IsName, IsUnder, IsWhich, Says, SaysOr, media_type_of, which_keyword}
+use Rattle.account_laws.specs.SpelledFields.{NoneIfSaid, SaysName, SaysNames, SaysNone, or_untitled}
+use Rattle.account_laws.specs.SpelledTemplates.{AreCopies, SaysCopies}
+use Rattle.account_rules.specs.Formats.{format_named, formats, media_type, names_format}
 use Rattle.account_rules.specs.Limits.{most_copies}
 use Rattle.account_rules.specs.declared.format.Format.{Format}
-use Rattle.account_rules.specs.declared.format.Format.TheVariants.{OctetStream}
+use Rattle.account_rules.specs.declared.format.Format.TheVariants.{OctetStream, Pdf, PostScript, Jpeg, PwgRaster, Urf, Plain}
 use Rattle.account_asks.proofs.UriCuts.{place_of}
 
--- ---- the value that an operation reads
+-- ---- the value that is read
 
-abbrev value_read : (reads : Bool) (found : Option PlainAttribute) → Option PlainValue
-value_read reads found = option_and_then lone_value (cond reads (option_map (λ (a : PlainAttribute). a.values) found) None)
+abbrev pub value_seen : (found : Option PlainAttribute) → Option PlainValue
+value_seen found = option_and_then lone_value (option_map (λ (a : PlainAttribute). a.values) found)
 
 -- it is there, well, or may be absent
-abbrev lone_test : (test : PlainValue → Bool) → Option PlainValue → Bool
+abbrev pub lone_test : (test : PlainValue → Bool) → Option PlainValue → Bool
 lone_test test None = false
 lone_test test (Some value) = test value
 
-abbrev is_well_so : (test : PlainValue → Bool) (may_lack : Bool) → Option PlainAttribute → Bool
+abbrev pub is_well_so : (test : PlainValue → Bool) (may_lack : Bool) → Option PlainAttribute → Bool
 is_well_so test may_lack None = may_lack
 is_well_so test may_lack (Some a) = lone_test test (lone_value a.values)
 
 -- each value is a keyword, or there is none
-abbrev are_keywords : Option PlainAttribute → Bool
+abbrev pub are_keywords : Option PlainAttribute → Bool
 are_keywords None = true
 are_keywords (Some a) = list_all (λ (value : PlainValue). value.tag == 0x44) a.values
 
-any_none : {X : Type 0} (test : X → Bool) (xs : List X) → list_any test xs ≡ false → AllByRecursion (λ (x : X). test x ≡ false) xs
-any_none test [] none = tt
-any_none {X = X} test (x ∷ xs) none = by (any_none test xs) (test x) refl none
-  where
-    by : (list_any test xs ≡ false → AllByRecursion (λ (x : X). test x ≡ false) xs) → (b : Bool) → test x ≡ b → (b || list_any test xs) ≡ false → (test x ≡ false) × AllByRecursion (λ (x : X). test x ≡ false) xs
-    by rest true is none = absurd (true≢false none)
-    by rest false is none = (is, rest none)
+-- what describes a job, a document and a list is well
+pub record JobWell (attributes : List PlainAttribute) : Type 0 where
+  pub name : is_well_so (λ value. is_some (name_said value)) true (named (codes "job-name") attributes) ≡ true
+  pub fidelity : is_well_so (λ value. is_some (bool_said value)) true (named (codes "ipp-attribute-fidelity") attributes) ≡ true
+  pub impressions : is_well_so (λ value. is_some (count_said value)) true (named (codes "job-impressions") attributes) ≡ true
+  pub password : is_well_so (λ (value : PlainValue). value.tag == 0x30) true (named (codes "job-password") attributes) ≡ true
+  pub encryption : is_well_so (λ (value : PlainValue). value.tag == 0x44) true (named (codes "job-password-encryption") attributes) ≡ true
 
--- each attribute that is read is well
-pub record AreWell (operation : Operation) (attributes : List PlainAttribute) : Type 0 where
-  pub name : (makes_job operation && not (is_well_so (λ value. is_some (name_said value)) true (named (codes "job-name") attributes))) ≡ false
-  pub impressions : (makes_job operation && not (is_well_so (λ value. is_some (count_said value)) true (named (codes "job-impressions") attributes))) ≡ false
-  pub password : (makes_job operation && not (is_well_so (λ (value : PlainValue). value.tag == 0x30) true (named (codes "job-password") attributes))) ≡ false
-  pub format : (describes_document operation && not (is_well_so (λ (value : PlainValue). value.tag == 0x49) true (named (codes "document-format") attributes))) ≡ false
-  pub last : (is_send_document operation && not (is_well_so (λ value. is_some (bool_said value)) false (named (codes "last-document") attributes))) ≡ false
-  pub which : (is_get_jobs operation && not (is_well_so (λ (value : PlainValue). value.tag == 0x44) true (named (codes "which-jobs") attributes))) ≡ false
-  pub limit : (is_get_jobs operation && not (is_well_so (λ value. is_some (positive_said value)) true (named (codes "limit") attributes))) ≡ false
-  pub wanted : (lists_attributes operation && not (are_keywords (named (codes "requested-attributes") attributes))) ≡ false
+pub record DocumentWell (attributes : List PlainAttribute) : Type 0 where
+  pub format : is_well_so (λ (value : PlainValue). value.tag == 0x49) true (named (codes "document-format") attributes) ≡ true
+  pub compression : is_well_so (λ (value : PlainValue). value.tag == 0x44) true (named (codes "compression") attributes) ≡ true
 
-pub are_well : (operation : Operation) (attributes : List PlainAttribute) → any_is_wrong operation attributes ≡ false → AreWell operation attributes
-unfolding any_is_wrong is_wrong
-are_well operation attributes none =
-    let each = any_none (is_wrong operation attributes) all_fields none in
-    record {
-      name = each.0;
-      impressions = each.1.1.0;
-      password = each.1.1.1.0;
-      format = each.1.1.1.1.1.0;
-      last = each.1.1.1.1.1.1.1.0;
-      which = each.1.1.1.1.1.1.1.1.0;
-      limit = each.1.1.1.1.1.1.1.1.1.0;
-      wanted = each.1.1.1.1.1.1.1.1.1.1.1.0;
-    }
+pub record ListWell (attributes : List PlainAttribute) : Type 0 where
+  pub which : is_well_so (λ (value : PlainValue). value.tag == 0x44) true (named (codes "which-jobs") attributes) ≡ true
+  pub limit : is_well_so (λ value. is_some (positive_said value)) true (named (codes "limit") attributes) ≡ true
+  pub mine : is_well_so (λ value. is_some (bool_said value)) true (named (codes "my-jobs") attributes) ≡ true
 
 -- it has one value, which passes its test; or it is absent, and may be
-record Present (test : PlainValue → Bool) (name : List ℕ) (attributes : List PlainAttribute) (read : Option PlainValue) : Type 0 where
+pub record Present (test : PlainValue → Bool) (name : List ℕ) (attributes : List PlainAttribute) : Type 0 where
   pub value : PlainValue
   pub is_there : HasValues name attributes (value ∷ [])
   pub is_of : IsOf value
   pub passes : test value ≡ true
-  pub is_read : read ≡ Some value
+  pub is_read : value_seen (named name attributes) ≡ Some value
 
-record Missing (may_lack : Bool) (name : List ℕ) (attributes : List PlainAttribute) (read : Option PlainValue) : Type 0 where
+pub record Missing (may_lack : Bool) (name : List ℕ) (attributes : List PlainAttribute) : Type 0 where
   pub none : HasNone name attributes
   pub may : may_lack ≡ true
-  pub is_read : read ≡ None
-
-passes_so : (reads b : Bool) → reads ≡ true → (reads && not b) ≡ false → b ≡ true
-passes_so true b reads is = not-false b is
-passes_so false b reads is = absurd (true≢false (sym reads))
+  pub is_read : value_seen (named name attributes) ≡ None
 
 lone_one : (test : PlainValue → Bool) (values : List PlainValue) → lone_test test (lone_value values) ≡ true → (value : PlainValue) × ((lone_value values ≡ Some value) × (test value ≡ true))
 lone_one test values passes = by (lone_value values) refl passes
@@ -101,13 +80,11 @@ lone_one test values passes = by (lone_value values) refl passes
     by None is passes = absurd (true≢false (sym passes))
     by (Some value) is passes = (value, (is, passes))
 
-there_or_not : (reads may_lack : Bool) (test : PlainValue → Bool) (name : List ℕ) (attributes : List PlainAttribute) → AreOf attributes → reads ≡ true → (reads && not (is_well_so test may_lack (named name attributes))) ≡ false
-    → Present test name attributes (value_read reads (named name attributes)) ⊎ Missing may_lack name attributes (value_read reads (named name attributes))
-there_or_not reads may_lack test name attributes are does well = by (named name attributes) refl (finds name attributes are) (passes_so reads (is_well_so test may_lack (named name attributes)) does well)
+pub there_or_not : (may_lack : Bool) (test : PlainValue → Bool) (name : List ℕ) (attributes : List PlainAttribute) → AreOf attributes → is_well_so test may_lack (named name attributes) ≡ true → Present test name attributes ⊎ Missing may_lack name attributes
+there_or_not may_lack test name attributes are well = by (named name attributes) refl (finds name attributes are) well
   where
-    by : (found : Option PlainAttribute) → named name attributes ≡ found → Finds name attributes found → is_well_so test may_lack found ≡ true
-        → Present test name attributes (value_read reads (named name attributes)) ⊎ Missing may_lack name attributes (value_read reads (named name attributes))
-    by None is found well = inr (record { none = found; may = well; is_read = ap (value_read reads) is ∙ ap (λ (b : Bool). value_read b None) does })
+    by : (found : Option PlainAttribute) → named name attributes ≡ found → Finds name attributes found → is_well_so test may_lack found ≡ true → Present test name attributes ⊎ Missing may_lack name attributes
+    by None is found well = inr (record { none = found; may = well; is_read = ap value_seen is })
     by (Some a) is found well =
         let one = lone_one test a.values well in
         let same = one_of a.values one.0 one.1.0 in
@@ -116,10 +93,10 @@ there_or_not reads may_lack test name attributes are does well = by (named name 
           is_there = subst (HasValues name attributes) same found.0;
           is_of = (subst (AllByRecursion IsOf) same found.1).0;
           passes = one.1.1;
-          is_read = ap (value_read reads) is ∙ ap (λ (b : Bool). value_read b (Some a)) does ∙ one.1.0;
+          is_read = ap value_seen is ∙ one.1.0;
         })
 
-some_of : {A : Type 0} (o : Option A) → is_some o ≡ true → (x : A) × (o ≡ Some x)
+pub some_of : {A : Type 0} (o : Option A) → is_some o ≡ true → (x : A) × (o ≡ Some x)
 some_of None is = absurd (true≢false (sym is))
 some_of (Some x) is = (x, refl)
 
@@ -127,58 +104,71 @@ pub not_none : {A : Type 0} (o : Option A) → is_none o ≡ false → (x : A) �
 not_none None is = absurd (true≢false is)
 not_none (Some x) is = (x, refl)
 
--- ---- job-name
-
-pub record IsNamed (attributes : List PlainAttribute) (name : List ℕ) : Type 0 where
-  pub given : List ℕ
-  pub is_given : SaysOr IsName [] (codes "job-name") attributes given
-  pub is : name ≡ or_untitled given
-
-name_read : (operation : Operation) (attributes : List PlainAttribute)
-    → job_name operation attributes ≡ unwrap_or (option_and_then unless_empty (option_and_then name_said (value_read (makes_job operation) (named (codes "job-name") attributes)))) (codes "untitled")
-unfolding job_name value_of values_of
-name_read operation attributes = refl
-
-untitled_or : (text : List ℕ) → unwrap_or (unless_empty text) (codes "untitled") ≡ or_untitled text
-untitled_or [] = refl
-untitled_or (c ∷ rest) = refl
-
-pub is_named : (operation : Operation) (attributes : List PlainAttribute) → AreOf attributes → AreWell operation attributes → makes_job operation ≡ true → IsNamed attributes (job_name operation attributes)
-is_named operation attributes are well makes = by (there_or_not (makes_job operation) true (λ value. is_some (name_said value)) (codes "job-name") attributes are makes well.name)
-  where
-    by : Present (λ value. is_some (name_said value)) (codes "job-name") attributes (value_read (makes_job operation) (named (codes "job-name") attributes)) ⊎ Missing true (codes "job-name") attributes (value_read (makes_job operation) (named (codes "job-name") attributes))
-        → IsNamed attributes (job_name operation attributes)
-    by (inl there) =
-        let text = some_of (name_said there.value) there.passes in
-        record {
-          given = text.0;
-          is_given = inl (record { value = there.value; is_there = there.is_there; is_said = name_is there.value text.0 there.is_of text.1 });
-          is = name_read operation attributes
-              ∙ ap (λ (o : Option PlainValue). unwrap_or (option_and_then unless_empty (option_and_then name_said o)) (codes "untitled")) there.is_read
-              ∙ ap (λ (o : Option (List ℕ)). unwrap_or (option_and_then unless_empty o) (codes "untitled")) text.1
-              ∙ untitled_or text.0;
-        }
-    by (inr missing) = record {
-      given = [];
-      is_given = inr (missing.none, refl);
-      is = name_read operation attributes ∙ ap (λ (o : Option PlainValue). unwrap_or (option_and_then unless_empty (option_and_then name_said o)) (codes "untitled")) missing.is_read;
-    }
-
 -- ---- a value of one kind, or none
 
 module _ {A : Type 0} (IsSaid : PlainValue → A → Type 0) (said : PlainValue → Option A) (absent : A) (test : PlainValue → Bool) (passing : (value : PlainValue) → test value ≡ true → (x : A) × (said value ≡ Some x)) (saying : (value : PlainValue) (x : A) → IsOf value → test value ≡ true → said value ≡ Some x → IsSaid value x) where
-  says_or : (name : List ℕ) (attributes : List PlainAttribute) (reads : Bool) → AreOf attributes → reads ≡ true → (reads && not (is_well_so test true (named name attributes))) ≡ false
-      → SaysOr IsSaid absent name attributes (unwrap_or (option_and_then said (value_read reads (named name attributes))) absent)
-  says_or name attributes reads are does well = by (there_or_not reads true test name attributes are does well)
+  says_or : (name : List ℕ) (attributes : List PlainAttribute) → AreOf attributes → is_well_so test true (named name attributes) ≡ true → SaysOr IsSaid absent name attributes (unwrap_or (option_and_then said (value_seen (named name attributes))) absent)
+  says_or name attributes are well = by (there_or_not true test name attributes are well)
     where
-      by : Present test name attributes (value_read reads (named name attributes)) ⊎ Missing true name attributes (value_read reads (named name attributes)) → SaysOr IsSaid absent name attributes (unwrap_or (option_and_then said (value_read reads (named name attributes))) absent)
+      by : Present test name attributes ⊎ Missing true name attributes → SaysOr IsSaid absent name attributes (unwrap_or (option_and_then said (value_seen (named name attributes))) absent)
       by (inl there) =
           let it = passing there.value there.passes in
           subst (SaysOr IsSaid absent name attributes) (sym (ap (λ (o : Option PlainValue). unwrap_or (option_and_then said o) absent) there.is_read ∙ ap (λ (o : Option A). unwrap_or o absent) it.1))
           (inl (record { value = there.value; is_there = there.is_there; is_said = saying there.value it.0 there.is_of there.passes it.1 }))
       by (inr missing) = inr (missing.none, ap (λ (o : Option PlainValue). unwrap_or (option_and_then said o) absent) missing.is_read)
 
+-- ---- the bytes of a value
+
+abbrev pub bytes_in : (name : List ℕ) → List PlainAttribute → Option (List ℕ)
+bytes_in name attributes = option_map (λ (value : PlainValue). value.bytes) (value_seen (named name attributes))
+
+-- ---- job-name
+
+abbrev pub name_in : List PlainAttribute → List ℕ
+name_in attributes = unwrap_or (option_and_then unless_empty (option_and_then name_said (value_seen (named (codes "job-name") attributes)))) (codes "untitled")
+
+pub untitled_or : (text : List ℕ) → unwrap_or (unless_empty text) (codes "untitled") ≡ or_untitled text
+untitled_or [] = refl
+untitled_or (c ∷ rest) = refl
+
+given_fits : (given : List ℕ) → length (or_untitled given) ≤ 255 → length given ≤ 255
+given_fits [] fits = omega arith
+given_fits (c ∷ rest) fits = fits
+
+-- the name that is said, empty where none is
+pub record IsGiven (attributes : List PlainAttribute) : Type 0 where
+  pub given : List ℕ
+  pub is_given : SaysOr IsName [] (codes "job-name") attributes given
+  pub is : name_in attributes ≡ or_untitled given
+
+pub name_given : (attributes : List PlainAttribute) → AreOf attributes → JobWell attributes → IsGiven attributes
+name_given attributes are well = by (there_or_not true (λ value. is_some (name_said value)) (codes "job-name") attributes are well.name)
+  where
+    by : Present (λ value. is_some (name_said value)) (codes "job-name") attributes ⊎ Missing true (codes "job-name") attributes → IsGiven attributes
+    by (inl there) =
+        let text = some_of (name_said there.value) there.passes in
+        record {
+          given = text.0;
+          is_given = inl (record { value = there.value; is_there = there.is_there; is_said = name_is there.value text.0 there.is_of text.1 });
+          is = ap (λ (o : Option PlainValue). unwrap_or (option_and_then unless_empty (option_and_then name_said o)) (codes "untitled")) there.is_read
+              ∙ ap (λ (o : Option (List ℕ)). unwrap_or (option_and_then unless_empty o) (codes "untitled")) text.1
+              ∙ untitled_or text.0;
+        }
+    by (inr missing) = record {
+      given = [];
+      is_given = inr (missing.none, refl);
+      is = ap (λ (o : Option PlainValue). unwrap_or (option_and_then unless_empty (option_and_then name_said o)) (codes "untitled")) missing.is_read;
+    }
+
+pub is_named : (attributes : List PlainAttribute) → AreOf attributes → JobWell attributes → length (name_in attributes) ≤ 255 → SaysName attributes (name_in attributes)
+is_named attributes are well short =
+    let it = name_given attributes are well in
+    record { given = it.given; is_given = it.is_given; fits = given_fits it.given (subst (λ (name : List ℕ). length name ≤ 255) it.is short); is = it.is }
+
 -- ---- job-password
+
+abbrev pub password_in : List PlainAttribute → List ℕ
+password_in attributes = unwrap_or (bytes_in (codes "job-password") attributes) []
 
 abbrev bytes_said : PlainValue → Option (List ℕ)
 bytes_said value = Some value.bytes
@@ -186,41 +176,86 @@ bytes_said value = Some value.bytes
 said_bytes : (tag : ℕ) (value : PlainValue) (bytes : List ℕ) → IsOf value → (value.tag == tag) ≡ true → bytes_said value ≡ Some bytes → IsUnder tag value bytes
 said_bytes tag value bytes are same said = subst (IsUnder tag value) (same_Some value.bytes bytes said) (is_under tag value same)
 
-mapped : {A B : Type 0} (f : A → B) (o : Option A) → option_map f o ≡ option_and_then (λ (x : A). Some (f x)) o
+pub mapped : {A B : Type 0} (f : A → B) (o : Option A) → option_map f o ≡ option_and_then (λ (x : A). Some (f x)) o
 mapped f None = refl
 mapped f (Some x) = refl
 
-password_read : (operation : Operation) (attributes : List PlainAttribute) → password operation attributes ≡ unwrap_or (option_map (λ (value : PlainValue). value.bytes) (value_read (makes_job operation) (named (codes "job-password") attributes))) []
-unfolding password value_of values_of
-password_read operation attributes = refl
-
-pub password_said : (operation : Operation) (attributes : List PlainAttribute) → AreOf attributes → AreWell operation attributes → makes_job operation ≡ true → SaysOr (IsUnder 0x30) [] (codes "job-password") attributes (password operation attributes)
-password_said operation attributes are well makes =
+pub password_said : (attributes : List PlainAttribute) → AreOf attributes → JobWell attributes → SaysOr (IsUnder 0x30) [] (codes "job-password") attributes (password_in attributes)
+password_said attributes are well =
     subst (SaysOr (IsUnder 0x30) [] (codes "job-password") attributes)
-    (sym (password_read operation attributes ∙ ap (λ (o : Option (List ℕ)). unwrap_or o []) (mapped (λ (value : PlainValue). value.bytes) (value_read (makes_job operation) (named (codes "job-password") attributes)))))
-    (says_or (IsUnder 0x30) bytes_said [] (λ (value : PlainValue). value.tag == 0x30) (λ value _. (value.bytes, refl)) (said_bytes 0x30) (codes "job-password") attributes (makes_job operation) are makes well.password)
+    (sym (ap (λ (o : Option (List ℕ)). unwrap_or o []) (mapped (λ (value : PlainValue). value.bytes) (value_seen (named (codes "job-password") attributes)))))
+    (says_or (IsUnder 0x30) bytes_said [] (λ (value : PlainValue). value.tag == 0x30) (λ value _. (value.bytes, refl)) (said_bytes 0x30) (codes "job-password") attributes are well.password)
 
 -- ---- job-impressions
 
-impressions_read : (operation : Operation) (attributes : List PlainAttribute) → impressions operation attributes ≡ unwrap_or (option_and_then count_said (value_read (makes_job operation) (named (codes "job-impressions") attributes))) 0
-unfolding impressions value_of values_of
-impressions_read operation attributes = refl
+abbrev pub impressions_in : List PlainAttribute → ℕ
+impressions_in attributes = unwrap_or (option_and_then count_said (value_seen (named (codes "job-impressions") attributes))) 0
 
-pub impressions_said : (operation : Operation) (attributes : List PlainAttribute) → AreOf attributes → AreWell operation attributes → makes_job operation ≡ true → SaysOr IsInteger 0 (codes "job-impressions") attributes (impressions operation attributes)
-impressions_said operation attributes are well makes =
-    subst (SaysOr IsInteger 0 (codes "job-impressions") attributes) (sym (impressions_read operation attributes))
-    (says_or IsInteger count_said 0 (λ value. is_some (count_said value)) (λ value passes. some_of (count_said value) passes) (λ value n of _ said. count_is value n of said) (codes "job-impressions") attributes (makes_job operation) are makes well.impressions)
+pub impressions_said : (attributes : List PlainAttribute) → AreOf attributes → JobWell attributes → SaysOr IsInteger 0 (codes "job-impressions") attributes (impressions_in attributes)
+impressions_said attributes are well = says_or IsInteger count_said 0 (λ value. is_some (count_said value)) (λ value passes. some_of (count_said value) passes) (λ value n of _ said. count_is value n of said) (codes "job-impressions") attributes are well.impressions
+
+-- ---- ipp-attribute-fidelity, my-jobs and last-document
+
+abbrev pub boolean_in : (name : List ℕ) → List PlainAttribute → Bool
+boolean_in name attributes = unwrap_or (option_and_then bool_said (value_seen (named name attributes))) false
+
+pub boolean_or : (name : List ℕ) (attributes : List PlainAttribute) → AreOf attributes → is_well_so (λ value. is_some (bool_said value)) true (named name attributes) ≡ true → SaysOr IsBoolean false name attributes (boolean_in name attributes)
+boolean_or = says_or IsBoolean bool_said false (λ value. is_some (bool_said value)) (λ value passes. some_of (bool_said value) passes) (λ value b of _ said. boolean_is value b said)
+
+pub insisted : (insists : Bool) (unsupported : List PlainAttribute) → (insists && some_attribute unsupported) ≡ false → insists ≡ true → unsupported ≡ []
+insisted insists [] check is = refl
+insisted true (a ∷ more) check is = absurd (true≢false check)
+insisted false (a ∷ more) check is = absurd (true≢false (sym is))
+
+pub last_said : (attributes : List PlainAttribute) → AreOf attributes → is_well_so (λ value. is_some (bool_said value)) false (named (codes "last-document") attributes) ≡ true → Says IsBoolean (codes "last-document") attributes (boolean_in (codes "last-document") attributes)
+last_said attributes are well = by (there_or_not false (λ value. is_some (bool_said value)) (codes "last-document") attributes are well)
+  where
+    by : Present (λ value. is_some (bool_said value)) (codes "last-document") attributes ⊎ Missing false (codes "last-document") attributes → Says IsBoolean (codes "last-document") attributes (boolean_in (codes "last-document") attributes)
+    by (inl there) =
+        let it = some_of (bool_said there.value) there.passes in
+        record {
+          value = there.value;
+          is_there = there.is_there;
+          is_said = subst (IsBoolean there.value) (sym (ap (λ (o : Option PlainValue). unwrap_or (option_and_then bool_said o) false) there.is_read ∙ ap (λ (o : Option Bool). unwrap_or o false) it.1)) (boolean_is there.value it.0 it.1);
+        }
+    by (inr missing) = absurd (true≢false (sym missing.may))
+
+-- ---- job-password-encryption and compression
+
+pub none_said : (name : List ℕ) (attributes : List PlainAttribute) → AreOf attributes → is_well_so (λ (value : PlainValue). value.tag == 0x44) true (named name attributes) ≡ true → is_none_if_said (bytes_in name attributes) ≡ true → NoneIfSaid name attributes
+none_said name attributes are well none = by (there_or_not true (λ (value : PlainValue). value.tag == 0x44) name attributes are well)
+  where
+    by : Present (λ (value : PlainValue). value.tag == 0x44) name attributes ⊎ Missing true name attributes → NoneIfSaid name attributes
+    by (inl there) =
+        let tag = eqb-true there.value.tag 0x44 there.passes in
+        let same = ap (λ (o : Option PlainValue). is_none_if_said (option_map (λ (value : PlainValue). value.bytes) o)) (sym there.is_read) ∙ none in
+        let bytes = (bytes_eq-Decides there.value.bytes (codes "none")).0 same in
+        let one : there.value ∷ [] ≡ record { tag = 0x44; bytes = codes "none" } ∷ [] = λ i. record { tag = tag i; bytes = bytes i } ∷ [] in
+        inr (subst (HasValues name attributes) one there.is_there)
+    by (inr missing) = inl missing.none
+
+empty_is : (password : List ℕ) → (not (is_empty password) && true) ≡ false → password ≡ []
+empty_is [] none = refl
+empty_is (c ∷ rest) none = absurd (true≢false none)
+
+-- where there is a password, it is said
+pub encryption_told : (attributes : List PlainAttribute) (password : List ℕ) → NoneIfSaid (codes "job-password-encryption") attributes → (not (is_empty password) && is_none (bytes_in (codes "job-password-encryption") attributes)) ≡ false
+    → password ≢ [] → SaysNone (codes "job-password-encryption") attributes
+encryption_told attributes password (inr says) check some = says
+encryption_told attributes password (inl none) check some =
+    let absent : is_none (bytes_in (codes "job-password-encryption") attributes) ≡ true =
+    ap (λ (found : Option PlainAttribute). is_none (option_map (λ (value : PlainValue). value.bytes) (value_seen found))) (none_again (codes "job-password-encryption") attributes none) in
+    absurd (some (empty_is password (ap (λ (b : Bool). not (is_empty password) && b) (sym absent) ∙ check)))
 
 -- ---- limit
 
-limit_read : (operation : Operation) (attributes : List PlainAttribute) → limit operation attributes ≡ option_and_then positive_said (value_read (is_get_jobs operation) (named (codes "limit") attributes))
-unfolding limit value_of values_of
-limit_read operation attributes = refl
+abbrev pub limit_in : List PlainAttribute → Option ℕ
+limit_in attributes = option_and_then positive_said (value_seen (named (codes "limit") attributes))
 
-abbrev limit_of : PlainValue → Option (Option ℕ)
+abbrev pub limit_of : PlainValue → Option (Option ℕ)
 limit_of value = option_map (λ (n : ℕ). Some n) (positive_said value)
 
-limit_as : (o : Option PlainValue) → option_and_then positive_said o ≡ unwrap_or (option_and_then limit_of o) None
+pub limit_as : (o : Option PlainValue) → option_and_then positive_said o ≡ unwrap_or (option_and_then limit_of o) None
 limit_as None = refl
 limit_as (Some value) = by (positive_said value)
   where
@@ -236,33 +271,15 @@ limit_is value x are passes said =
     let it = some_of (positive_said value) passes in
     subst (IsLimit value) (same_Some (Some it.0) x (sym (ap (option_map (λ (n : ℕ). Some n)) it.1) ∙ said)) (positive_said_is value it.0 are it.1)
 
-pub limit_said : (operation : Operation) (attributes : List PlainAttribute) → AreOf attributes → AreWell operation attributes → is_get_jobs operation ≡ true → SaysOr IsLimit None (codes "limit") attributes (limit operation attributes)
-limit_said operation attributes are well gets =
-    subst (SaysOr IsLimit None (codes "limit") attributes) (sym (limit_read operation attributes ∙ limit_as (value_read (is_get_jobs operation) (named (codes "limit") attributes))))
-    (says_or IsLimit limit_of None (λ value. is_some (positive_said value)) limit_passes limit_is (codes "limit") attributes (is_get_jobs operation) are gets well.limit)
-
--- ---- last-document
-
-last_read : (operation : Operation) (attributes : List PlainAttribute) → last_document operation attributes ≡ unwrap_or (option_and_then bool_said (value_read (is_send_document operation) (named (codes "last-document") attributes))) false
-unfolding last_document value_of values_of
-last_read operation attributes = refl
-
-pub last_said : (operation : Operation) (attributes : List PlainAttribute) → AreOf attributes → AreWell operation attributes → is_send_document operation ≡ true → Says IsBoolean (codes "last-document") attributes (last_document operation attributes)
-last_said operation attributes are well sends = by (there_or_not (is_send_document operation) false (λ value. is_some (bool_said value)) (codes "last-document") attributes are sends well.last)
-  where
-    by : Present (λ value. is_some (bool_said value)) (codes "last-document") attributes (value_read (is_send_document operation) (named (codes "last-document") attributes))
-        ⊎ Missing false (codes "last-document") attributes (value_read (is_send_document operation) (named (codes "last-document") attributes))
-        → Says IsBoolean (codes "last-document") attributes (last_document operation attributes)
-    by (inl there) =
-        let it = some_of (bool_said there.value) there.passes in
-        record {
-          value = there.value;
-          is_there = there.is_there;
-          is_said = subst (IsBoolean there.value) (sym (last_read operation attributes ∙ ap (λ (o : Option PlainValue). unwrap_or (option_and_then bool_said o) false) there.is_read ∙ ap (λ (o : Option Bool). unwrap_or o false) it.1)) (boolean_is there.value it.0 it.1);
-        }
-    by (inr missing) = absurd (true≢false (sym missing.may))
+pub limit_said : (attributes : List PlainAttribute) → AreOf attributes → ListWell attributes → SaysOr IsLimit None (codes "limit") attributes (limit_in attributes)
+limit_said attributes are well =
+    subst (SaysOr IsLimit None (codes "limit") attributes) (sym (limit_as (value_seen (named (codes "limit") attributes))))
+    (says_or IsLimit limit_of None (λ value. is_some (positive_said value)) limit_passes limit_is (codes "limit") attributes are well.limit)
 
 -- ---- document-format
+
+abbrev pub format_in : List PlainAttribute → Option Format
+format_in attributes = format_said (bytes_in (codes "document-format") attributes)
 
 -- the first of a list that passes a test passes it
 found_passes : {X : Type 0} (test : X → Bool) (xs : List X) (x : X) → find test xs ≡ Some x → test x ≡ true
@@ -289,7 +306,16 @@ cut_at (c ∷ bytes) = subst (λ (o : Option ℕ). IsCut (c ∷ bytes) (up_to o 
     by false is None rest = record { parameters = rest.parameters; parts = ap (λ (l : List ℕ). c ∷ l) rest.parts; goes_on = (eqb-false c 59 is, rest.goes_on); is_behind = rest.is_behind }
     by false is (Some p) rest = record { parameters = rest.parameters; parts = ap (λ (l : List ℕ). c ∷ l) rest.parts; goes_on = (eqb-false c 59 is, rest.goes_on); is_behind = rest.is_behind }
 
-media_type_is : (value : PlainValue) (format : Format) → (value.tag == 0x49) ≡ true → format_named (without_parameters value.bytes) ≡ Some format → IsMediaType value format
+same_media_type : (format : Format) → media_type format ≡ media_type_of format
+same_media_type OctetStream = refl
+same_media_type Pdf = refl
+same_media_type PostScript = refl
+same_media_type Jpeg = refl
+same_media_type PwgRaster = refl
+same_media_type Urf = refl
+same_media_type Plain = refl
+
+pub media_type_is : (value : PlainValue) (format : Format) → (value.tag == 0x49) ≡ true → format_named (without_parameters value.bytes) ≡ Some format → IsMediaType value format
 media_type_is value format tag named =
     let cut = cut_at value.bytes in
     record {
@@ -298,30 +324,26 @@ media_type_is value format tag named =
       is = ((is_under 0x49 value tag).0, cut.parts);
       goes_on = cut.goes_on;
       is_behind = cut.is_behind;
-      names = found_passes (names_format (without_parameters value.bytes)) formats format named;
+      names = ap (str_eq_ignore_ascii_case (without_parameters value.bytes)) (sym (same_media_type format)) ∙ found_passes (names_format (without_parameters value.bytes)) formats format named;
     }
 
-format_read : (operation : Operation) (attributes : List PlainAttribute) → document_format operation attributes ≡ format_said (option_map (λ (value : PlainValue). value.bytes) (value_read (describes_document operation) (named (codes "document-format") attributes)))
-unfolding document_format value_of values_of
-format_read operation attributes = refl
-
-pub format_is_said : (operation : Operation) (attributes : List PlainAttribute) → AreOf attributes → AreWell operation attributes → is_none (document_format operation attributes) ≡ false → describes_document operation ≡ true
-    → SaysOr IsMediaType OctetStream (codes "document-format") attributes (unwrap_or (document_format operation attributes) OctetStream)
-format_is_said operation attributes are well known describes = by (there_or_not (describes_document operation) true (λ (value : PlainValue). value.tag == 0x49) (codes "document-format") attributes are describes well.format)
+pub format_is_said : (attributes : List PlainAttribute) → AreOf attributes → DocumentWell attributes → is_none (format_in attributes) ≡ false → SaysOr IsMediaType OctetStream (codes "document-format") attributes (unwrap_or (format_in attributes) OctetStream)
+format_is_said attributes are well known = by (there_or_not true (λ (value : PlainValue). value.tag == 0x49) (codes "document-format") attributes are well.format)
   where
-    by : Present (λ (value : PlainValue). value.tag == 0x49) (codes "document-format") attributes (value_read (describes_document operation) (named (codes "document-format") attributes))
-        ⊎ Missing true (codes "document-format") attributes (value_read (describes_document operation) (named (codes "document-format") attributes))
-        → SaysOr IsMediaType OctetStream (codes "document-format") attributes (unwrap_or (document_format operation attributes) OctetStream)
+    by : Present (λ (value : PlainValue). value.tag == 0x49) (codes "document-format") attributes ⊎ Missing true (codes "document-format") attributes → SaysOr IsMediaType OctetStream (codes "document-format") attributes (unwrap_or (format_in attributes) OctetStream)
     by (inl there) =
-        let it = not_none (document_format operation attributes) known in
-        let named_so = sym (format_read operation attributes ∙ ap (λ (o : Option PlainValue). format_said (option_map (λ (value : PlainValue). value.bytes) o)) there.is_read) ∙ it.1 in
+        let it = not_none (format_in attributes) known in
+        let named_so = sym (ap (λ (o : Option PlainValue). format_said (option_map (λ (value : PlainValue). value.bytes) o)) there.is_read) ∙ it.1 in
         subst (SaysOr IsMediaType OctetStream (codes "document-format") attributes) (sym (ap (λ (o : Option Format). unwrap_or o OctetStream) it.1))
         (inl (record { value = there.value; is_there = there.is_there; is_said = media_type_is there.value it.0 there.passes named_so }))
-    by (inr missing) = inr (missing.none, ap (λ (o : Option Format). unwrap_or o OctetStream) (format_read operation attributes ∙ ap (λ (o : Option PlainValue). format_said (option_map (λ (value : PlainValue). value.bytes) o)) missing.is_read))
+    by (inr missing) = inr (missing.none, ap (λ (o : Option PlainValue). unwrap_or (format_said (option_map (λ (value : PlainValue). value.bytes) o)) OctetStream) missing.is_read)
 
 -- ---- which-jobs
 
-which_is : (keyword : List ℕ) (which : Which) → which_named (Some keyword) ≡ Some which → keyword ≡ which_keyword which
+abbrev pub which_in : List PlainAttribute → Option Which
+which_in attributes = which_named (bytes_in (codes "which-jobs") attributes)
+
+pub which_is : (keyword : List ℕ) (which : Which) → which_named (Some keyword) ≡ Some which → keyword ≡ which_keyword which
 which_is keyword which named = by (bytes_eq keyword (codes "completed")) refl (bytes_eq keyword (codes "not-completed")) refl named
   where
     by : (ended : Bool) → bytes_eq keyword (codes "completed") ≡ ended → (other : Bool) → bytes_eq keyword (codes "not-completed") ≡ other → cond ended (Some Completed) (cond other (Some NotCompleted) None) ≡ Some which → keyword ≡ which_keyword which
@@ -329,26 +351,23 @@ which_is keyword which named = by (bytes_eq keyword (codes "completed")) refl (b
     by false is true isnt named = (bytes_eq-Decides keyword (codes "not-completed")).0 isnt ∙ ap which_keyword (same_Some NotCompleted which named)
     by false is false isnt named = absurd (none-some which named)
 
-which_read : (operation : Operation) (attributes : List PlainAttribute) → which_jobs operation attributes ≡ which_named (option_map (λ (value : PlainValue). value.bytes) (value_read (is_get_jobs operation) (named (codes "which-jobs") attributes)))
-unfolding which_jobs value_of values_of
-which_read operation attributes = refl
-
-pub which_said : (operation : Operation) (attributes : List PlainAttribute) → AreOf attributes → AreWell operation attributes → is_none (which_jobs operation attributes) ≡ false → is_get_jobs operation ≡ true
-    → SaysOr IsWhich NotCompleted (codes "which-jobs") attributes (unwrap_or (which_jobs operation attributes) NotCompleted)
-which_said operation attributes are well known gets = by (there_or_not (is_get_jobs operation) true (λ (value : PlainValue). value.tag == 0x44) (codes "which-jobs") attributes are gets well.which)
+pub which_said : (attributes : List PlainAttribute) → AreOf attributes → ListWell attributes → is_none (which_in attributes) ≡ false → SaysOr IsWhich NotCompleted (codes "which-jobs") attributes (unwrap_or (which_in attributes) NotCompleted)
+which_said attributes are well known = by (there_or_not true (λ (value : PlainValue). value.tag == 0x44) (codes "which-jobs") attributes are well.which)
   where
-    by : Present (λ (value : PlainValue). value.tag == 0x44) (codes "which-jobs") attributes (value_read (is_get_jobs operation) (named (codes "which-jobs") attributes)) ⊎ Missing true (codes "which-jobs") attributes (value_read (is_get_jobs operation) (named (codes "which-jobs") attributes))
-        → SaysOr IsWhich NotCompleted (codes "which-jobs") attributes (unwrap_or (which_jobs operation attributes) NotCompleted)
+    by : Present (λ (value : PlainValue). value.tag == 0x44) (codes "which-jobs") attributes ⊎ Missing true (codes "which-jobs") attributes → SaysOr IsWhich NotCompleted (codes "which-jobs") attributes (unwrap_or (which_in attributes) NotCompleted)
     by (inl there) =
-        let it = not_none (which_jobs operation attributes) known in
-        let named_so = sym (which_read operation attributes ∙ ap (λ (o : Option PlainValue). which_named (option_map (λ (value : PlainValue). value.bytes) o)) there.is_read) ∙ it.1 in
+        let it = not_none (which_in attributes) known in
+        let named_so = sym (ap (λ (o : Option PlainValue). which_named (option_map (λ (value : PlainValue). value.bytes) o)) there.is_read) ∙ it.1 in
         subst (SaysOr IsWhich NotCompleted (codes "which-jobs") attributes) (sym (ap (λ (o : Option Which). unwrap_or o NotCompleted) it.1))
         (inl (record { value = there.value; is_there = there.is_there; is_said = ((is_under 0x44 there.value there.passes).0, which_is there.value.bytes it.0 named_so) }))
-    by (inr missing) = inr (missing.none, ap (λ (o : Option Which). unwrap_or o NotCompleted) (which_read operation attributes ∙ ap (λ (o : Option PlainValue). which_named (option_map (λ (value : PlainValue). value.bytes) o)) missing.is_read))
+    by (inr missing) = inr (missing.none, ap (λ (o : Option PlainValue). unwrap_or (which_named (option_map (λ (value : PlainValue). value.bytes) o)) NotCompleted) missing.is_read)
 
 -- ---- requested-attributes
 
-abbrev keyword_of : List ℕ → PlainValue
+abbrev pub wanted_in : List PlainAttribute → Option (List (List ℕ))
+wanted_in attributes = option_map names_of (option_map (λ (a : PlainAttribute). a.values) (named (codes "requested-attributes") attributes))
+
+abbrev pub keyword_of : List ℕ → PlainValue
 keyword_of name = record { tag = 0x44; bytes = name }
 
 keywords_are : (values : List PlainValue) → list_all (λ (value : PlainValue). value.tag == 0x44) values ≡ true → values ≡ map keyword_of (names_of values)
@@ -359,19 +378,10 @@ keywords_are (value ∷ values) all =
     let rest = keywords_are values both.1 in
     λ i. record { tag = first i; bytes = value.bytes } ∷ rest i
 
-abbrev names_read : (reads : Bool) (found : Option PlainAttribute) → Option (List (List ℕ))
-names_read reads found = option_map names_of (cond reads (option_map (λ (a : PlainAttribute). a.values) found) None)
-
-wanted_read : (operation : Operation) (attributes : List PlainAttribute) → wanted operation attributes ≡ names_read (lists_attributes operation) (named (codes "requested-attributes") attributes)
-unfolding wanted values_of
-wanted_read operation attributes = refl
-
-pub wanted_said : (operation : Operation) (attributes : List PlainAttribute) → AreOf attributes → AreWell operation attributes → lists_attributes operation ≡ true → SaysNames attributes (wanted operation attributes)
-wanted_said operation attributes are well lists =
-    subst (SaysNames attributes) (sym (wanted_read operation attributes ∙ ap (λ (b : Bool). names_read b (named (codes "requested-attributes") attributes)) lists))
-    (by (named (codes "requested-attributes") attributes) (finds (codes "requested-attributes") attributes are) (passes_so (lists_attributes operation) (are_keywords (named (codes "requested-attributes") attributes)) lists well.wanted))
+pub wanted_said : (attributes : List PlainAttribute) → AreOf attributes → are_keywords (named (codes "requested-attributes") attributes) ≡ true → SaysNames attributes (wanted_in attributes)
+wanted_said attributes are well = by (named (codes "requested-attributes") attributes) (finds (codes "requested-attributes") attributes are) well
   where
-    by : (found : Option PlainAttribute) → Finds (codes "requested-attributes") attributes found → are_keywords found ≡ true → SaysNames attributes (names_read true found)
+    by : (found : Option PlainAttribute) → Finds (codes "requested-attributes") attributes found → are_keywords found ≡ true → SaysNames attributes (option_map names_of (option_map (λ (a : PlainAttribute). a.values) found))
     by None found all = found
     by (Some a) found all = subst (HasValues (codes "requested-attributes") attributes) (keywords_are a.values all) found.0
 
@@ -407,8 +417,8 @@ are_said a n of said = by (lone_value a.values) refl said
     by None is said = absurd (none-some n said)
     by (Some value) is said = up value is (positive_said value) refl said
 
-said_again : (attributes : List PlainAttribute) (n : ℕ) → Says AreCopies (codes "copies") attributes n → option_and_then copies_said (named (codes "copies") attributes) ≡ Some n
-said_again attributes n says =
+pub copies_said_again : (attributes : List PlainAttribute) (n : ℕ) → Says AreCopies (codes "copies") attributes n → option_and_then copies_said (named (codes "copies") attributes) ≡ Some n
+copies_said_again attributes n says =
     ap (option_and_then copies_said) (found_again (codes "copies") attributes (says.value ∷ []) says.is_there)
     ∙ ap (option_and_then up_to_most) (positive_again says.value n says.is_said.0 says.is_said.1)
     ∙ ap (λ (b : Bool). cond b (Some n) None) (le-leb n most_copies says.is_said.2)
@@ -423,7 +433,7 @@ copies_are_said attributes are = subst (SaysCopies attributes) (sym (copies_read
         record { value = it.value; is_there = subst (HasValues (codes "copies") attributes) it.is found.0; is_said = it.are }
 
     by : (o : Option ℕ) → option_and_then copies_said (named (codes "copies") attributes) ≡ o → SaysCopies attributes (unwrap_or o 1)
-    by None is = inr (λ n says. none-some n (sym is ∙ said_again attributes n says), refl)
+    by None is = inr (λ n says. none-some n (sym is ∙ copies_said_again attributes n says), refl)
     by (Some n) is = inl (there (named (codes "copies") attributes) (finds (codes "copies") attributes are) n is)
 
 -- ---- the group of the job
@@ -432,7 +442,7 @@ pub record Groups (groups : List PlainGroup) (attributes : List PlainAttribute) 
   pub are : AreOfJob groups attributes
   pub are_of : AreOf attributes
 
-abbrev found_group : Option PlainGroup → List PlainAttribute
+abbrev pub found_group : Option PlainGroup → List PlainAttribute
 found_group found = unwrap_or (option_map (λ (g : PlainGroup). g.attributes) found) []
 
 pub job_group_is : (groups : List PlainGroup) → AreGroupsOf groups → Groups groups (unwrap_or (job_group_of groups) [])
@@ -446,10 +456,3 @@ job_group_is (g ∷ groups) are = by (find (λ (group : PlainGroup). group.tag =
         further : AreOfJob groups (found_group found) → AreOfJob (g ∷ groups) (found_group found)
         further (inl one) = inl (record { earlier = g ∷ one.earlier; later = one.later; stands = ap (λ (l : List PlainGroup). g ∷ l) one.stands; is_first = (eqb-false g.tag 2 is, one.is_first) })
         further (inr none) = inr ((eqb-false g.tag 2 is, none.0), none.1)
-
-template_read : (operation : Operation) (m : PlainMessage) → makes_job operation ≡ true → template_attributes operation m ≡ unwrap_or (job_group_of m.groups) []
-unfolding template_attributes
-template_read operation m makes = ap (λ (b : Bool). cond b (unwrap_or (job_group_of m.groups) []) []) makes
-
-pub template_is : (operation : Operation) (m : PlainMessage) → AreGroupsOf m.groups → makes_job operation ≡ true → Groups m.groups (template_attributes operation m)
-template_is operation m are makes = subst (Groups m.groups) (sym (template_read operation m makes)) (job_group_is m.groups are)

@@ -1,18 +1,16 @@
 -- Which attributes of a job are not supported, and go back.
-use Rattle.std.proofs.Common.{◌≡◌, inl, inr, ℕ, Bool, true, false, true≢false, cond, not, ◌||◌, ◌==◌, codes, filter, map, List, [], ◌∷◌, Option, Some, None, is_some, option_and_then, unwrap_or, refl, sym, ap, subst, ◌∙◌}
+use Rattle.std.proofs.Common.{◌≡◌, inl, inr, ℕ, Bool, true, false, true≢false, cond, not, ◌||◌, ◌==◌, codes, filter, map, List, [], ◌∷◌, Option, Some, None, is_some, option_and_then, refl, sym, ap, subst, ◌∙◌}
 use Rattle.std.specs.List.{AllByRecursion}
 use Rattle.std.specs.Str.{bytes_eq}
 use Rattle.std.proofs.lemmas.Bool.{and_parts, eqb-true, le-leb}
 use Rattle.std.proofs.lemmas.Slice.Eq.{bytes_eq-Decides}
-use Rattle.ipp_coding.specs.Plain.{PlainAttribute, PlainMessage, PlainValue}
-use Rattle.account_asks.specs.Operations.{makes_job}
-use Rattle.account_asks.specs.Requests.{is_named, job_group_of, lone_value}
-use Rattle.account_asks.specs.Templates.{copies_said, firsts, holds_for_good, is_indefinite, is_known, is_supported, returned, template_attributes, unsupported, up_to_most}
-use Rattle.account_asks.specs.declared.operation.Operation.{Operation}
+use Rattle.ipp_coding.specs.Plain.{PlainAttribute, PlainValue}
+use Rattle.account_asks.specs.Requests.{is_named, lone_value}
+use Rattle.account_asks.specs.Templates.{copies_said, firsts, holds_for_good, is_indefinite, is_known, is_supported, returned, unsupported, up_to_most}
 use Rattle.account_laws.proofs.SpelledAttributes.{AreOf, IsOf, differ, one_of, positive_again}
 use Rattle.account_laws.proofs.SpelledFields.{are_said}
-use Rattle.account_laws.specs.SpelledAsks.{AreCopies, GoBack, HoldsForGood, IsKnown, IsReturned, IsSupported}
 use Rattle.account_laws.specs.SpelledAttributes.{HasNone}
+use Rattle.account_laws.specs.SpelledTemplates.{AreCopies, GoBack, HoldsForGood, IsKnown, IsReturned, IsSupported}
 use Rattle.account_rules.specs.Limits.{most_copies}
 
 same_name : (a b : List ℕ) → bytes_eq a b ≡ true → a ≡ b
@@ -161,8 +159,3 @@ all_unnamed (x ∷ xs) = ap (λ (l : List PlainAttribute). x ∷ l) (all_unnamed
 pub unsupported_back : (template : List PlainAttribute) → AreOf template → GoBack [] template (unsupported template)
 unfolding unsupported
 unsupported_back template are = subst (GoBack [] template) (ap back_of (all_unnamed (firsts template))) (go_back [] template are)
-
--- an operation that makes no job has none
-pub none_back : (operation : Operation) (m : PlainMessage) → makes_job operation ≡ false → unsupported (template_attributes operation m) ≡ []
-unfolding unsupported template_attributes
-none_back operation m no_job = ap (λ (b : Bool). back_of (firsts (cond b (unwrap_or (job_group_of m.groups) []) []))) no_job

@@ -14,7 +14,7 @@ use Rattle.account_laws.proofs.AsTold.{AccountKeeps, Keeps, all_keep, counts_ali
 use Rattle.account_laws.proofs.AsToldSums.{left_as_told}
 use Rattle.account_laws.proofs.Changes.{releases, settles}
 use Rattle.account_laws.proofs.DocumentsOfJobs.{AreOfJobs, RoomHasOfJobs, handed_as_sent, has_of_jobs}
-use Rattle.account_laws.proofs.LifeLemmas.{front_of_life}
+use Rattle.account_lives.proofs.LifeLemmas.{front_of_life}
 use Rattle.account_laws.proofs.LineChecks.{acted_on, job_stands, known_stands, opened_stands, ready_stands, refusal_in, told_by, unopened_stands}
 use Rattle.account_laws.proofs.Moved.{ended_is, none_ended, same_copies, was_unfinished}
 use Rattle.account_laws.specs.AccountsTold.{AccountTold, account_told, after_deed, left_told, rate_told}

@@ -1,25 +1,20 @@
 -- The statuses of refusals are those of errors.
-use Rattle.std.proofs.Common.{◌≡◌, ℕ, Bool, true, false, ◌&&◌, nat_le, nat_lt, cond, List, [], ◌∷◌, ◌++◌, Option, None, Some, Result, Ok, Err, refl, subst, arith}
-use Rattle.std.specs.List.{AllByRecursion}
+use Rattle.std.proofs.Common.{◌≡◌, ℕ, true, false, ◌&&◌, nat_le, nat_lt, cond, List, Some, Result, Ok, Err, refl, sym, subst, arith}
 use Rattle.std.proofs.lemmas.Grind.{common_steps}
-use Rattle.ipp_coding.specs.Plain.{PlainAttribute, PlainMessage}
-use Rattle.ipp_coding.specs.Reading.{header_in, message_of}
-use Rattle.ipp_coding.specs.declared.message.Header.{Header}
-use Rattle.account_asks.specs.Asks.{PlainRefusal, ask_of}
-use Rattle.account_asks.specs.CheckOrder.{attribute_checks, checks, document_checks, field_checks, message_checks, message_or_nothing, opening_checks, target_checks}
-use Rattle.account_asks.specs.Fields.{fidelity}
-use Rattle.account_asks.specs.Operations.{operation_of}
-use Rattle.account_asks.specs.Refusals.{Check, first_refusal, refusal_of, unless_refused}
-use Rattle.account_asks.specs.Requests.{operation_attributes}
-use Rattle.account_asks.specs.Templates.{template_attributes, unsupported}
-use Rattle.account_asks.specs.declared.operation.Operation.{Operation}
+use Rattle.account_asks.specs.Asks.{PlainAsk, PlainRefusal, ask_of}
+use Rattle.account_laws.proofs.CodedRefusals.{refusals_are_coded}
+use Rattle.account_laws.specs.AccountsTold.{AccountTold}
+use Rattle.account_laws.specs.RefusalCodes.{code_of}
+use Rattle.account_laws.specs.Refusals.{first_refusal}
+use Rattle.account_laws.specs.RequestAnswers.{operation_checks}
 use Rattle.account_replies.specs.Queues.{accepting_refusal, is_accepting}
 use Rattle.account_rules.specs.Acts.{Act}
 use Rattle.account_rules.specs.Effects.{refused}
 use Rattle.account_rules.specs.Moves.{move}
 use Rattle.account_rules.specs.declared.job.Standing.{Standing}
 use Rattle.account_rules.specs.declared.refusal.Refusal.{Refusal}
-use Rattle.account_rules.specs.declared.refusal.Word.TheVariants.{NotAccepting}
+use Rattle.account_rules.specs.declared.refusal.Word.{Word}
+use Rattle.account_rules.specs.declared.refusal.Word.TheVariants.{NotAccepting, Version}
 
 -- the status of an error, of a client or of the server (RFC 8011 section B.1)
 abbrev pub IsError : (status : ℕ) → Type 0
@@ -54,65 +49,15 @@ move_errs act s = errs_of (move act s) (move_refuses act s)
 
 -- ---- the checks of requests
 
--- each of the checks refuses by an error
-abbrev CheckForErrors : List Check → Type 0
-CheckForErrors = AllByRecursion (λ (check : Check). IsError check.status)
+-- the code of each word is that of an error
+code_errs : (word : Word) → IsError (code_of word)
+code_errs Version = refl
+code_errs _ = refl
 
--- some and others do, if both do
-joined_checks : (first second : List Check) → CheckForErrors first → CheckForErrors second → CheckForErrors (first ++ second)
-joined_checks [] second a b = b
-joined_checks (check ∷ first) second a b = (a.0, joined_checks first second a.1 b)
-
--- so the first that fails does
-this_or_later : (b : Bool) (check : Check) (later : Option PlainRefusal) (first : PlainRefusal) → IsError check.status → (later ≡ Some first → IsError first.refusal.status)
-    → cond b (Some (refusal_of check)) later ≡ Some first → IsError first.refusal.status
-this_or_later true check later first errs rest is = let same : refusal_of check ≡ first = cc in subst (λ (r : PlainRefusal). IsError r.refusal.status) same errs
-this_or_later false check later first errs rest is = rest is
-
-first_errs : (checks : List Check) (first : PlainRefusal) → CheckForErrors checks → first_refusal checks ≡ Some first → IsError first.refusal.status
-first_errs [] first errs is = absurd (let no : ⊥ = cc in no)
-first_errs (check ∷ later) first errs is = this_or_later check.refused check (first_refusal later) first errs.0 (first_errs later first errs.1) is
-
--- all eighteen do
-opening_err : (attributes : List PlainAttribute) → CheckForErrors (opening_checks attributes)
-unfolding opening_checks
-opening_err attributes = (refl, (refl, tt))
-
-target_err : (account : List ℕ) (operation : Operation) (attributes : List PlainAttribute) → CheckForErrors (target_checks account operation attributes)
-unfolding target_checks
-target_err account operation attributes = (refl, (refl, (refl, tt)))
-
-field_err : (operation : Operation) (attributes : List PlainAttribute) → CheckForErrors (field_checks operation attributes)
-unfolding field_checks
-field_err operation attributes = (refl, (refl, (refl, (refl, (refl, (refl, (refl, (refl, tt))))))))
-
-document_err : (operation : Operation) (insists : Bool) (unsupported : List PlainAttribute) (payload : List ℕ) → CheckForErrors (document_checks operation insists unsupported payload)
-unfolding document_checks
-document_err operation insists unsupported payload = (refl, (refl, tt))
-
-attribute_err : (account : List ℕ) (operation : Operation) (attributes : List PlainAttribute) → CheckForErrors (attribute_checks account operation attributes)
-unfolding attribute_checks
-attribute_err account operation attributes =
-    joined_checks (opening_checks attributes) (target_checks account operation attributes ++ field_checks operation attributes) (opening_err attributes)
-    (joined_checks (target_checks account operation attributes) (field_checks operation attributes) (target_err account operation attributes) (field_err operation attributes))
-
-message_err : (account : List ℕ) (operation : Operation) (m : PlainMessage) → CheckForErrors (message_checks account operation m)
-unfolding message_checks
-message_err account operation m =
-    joined_checks (attribute_checks account operation (operation_attributes m)) _ (attribute_err account operation (operation_attributes m))
-    (document_err operation (fidelity operation (operation_attributes m)) (unsupported (template_attributes operation m)) m.payload)
-
-all_err : (account : List ℕ) (header : Header) (message : Option PlainMessage) → CheckForErrors (checks account header message)
-all_err account header message = (refl, (refl, (refl, message_err account (operation_of header) (message_or_nothing header message))))
-
--- the first refusal of some checks
-refused_as : {A : Type 0} (found : Option PlainRefusal) (x : A) (refused : PlainRefusal) → unless_refused found x ≡ Err refused → found ≡ Some refused
-refused_as None x refused is = absurd (let no : ⊥ = cc in no)
-refused_as (Some found) x refused is = cc
-
--- a request that the checks refuse is refused by an error
+-- a request is refused by an error, as it is read
 pub ask_errs : (account body : List ℕ) (refused : PlainRefusal) → ask_of account body ≡ Err refused → IsError refused.refusal.status
-unfolding ask_of
-ask_errs account body refused is =
-    first_errs (checks account (header_in body) (message_of body)) refused (all_err account (header_in body) (message_of body))
-    (refused_as (first_refusal (checks account (header_in body) (message_of body))) _ refused is)
+ask_errs account body refused is = subst IsError (sym (refusals_are_coded.read account body refused is)) (code_errs refused.refusal.word)
+
+-- and for what was told before
+pub told_errs : (told : AccountTold) (now : ℕ) (ask : PlainAsk) (refusal : Refusal) → first_refusal (operation_checks told now ask ask.operation) ≡ Some refusal → IsError refusal.status
+told_errs told now ask refusal is = subst IsError (sym (refusals_are_coded.told told now ask refusal is)) (code_errs refusal.word)

@@ -8,7 +8,9 @@ use Rattle.ipp_coding.specs.declared.message.Header.{Header}
 use Rattle.account_asks.specs.Asks.{PlainAsk, PlainRefusal, ask_of}
 use Rattle.account_asks.specs.declared.operation.Operation.{Operation}
 use Rattle.account_asks.specs.declared.operation.Operation.TheVariants as asks
+use Rattle.account_laws.proofs.RefusalTexts.{text_alike}
 use Rattle.account_laws.specs.VerdictsTold.{AccountsAreToldVerdicts, DevicesAreToldVerdicts, ReplyTells, ResponseTells}
+use Rattle.account_lives.proofs.LifeLemmas.{unopened_answer}
 use Rattle.account_machine.specs.DeviceEvents.{DeviceAnswer}
 use Rattle.account_machine.specs.Events.{PlainEvent, OfAccount, OfDevice, Open, Ipp, Release, Start, Settle, Grant, Switch, Rate}
 use Rattle.account_machine.specs.JobActs.{job_in}
@@ -22,25 +24,24 @@ use Rattle.account_machine.specs.Stations.{station, station_release, station_set
 use Rattle.account_machine.specs.Steps.{Step, refusing_or, with_moved}
 use Rattle.account_machine.specs.Verdicts.{line_done, line_refused, short_refused}
 use Rattle.account_machine.specs.declared.event.Reply.TheVariants as reply
-use Rattle.account_laws.proofs.LifeLemmas.{unopened_answer}
 use Rattle.account_replies.specs.Grants.{grant_refusal}
 use Rattle.account_replies.specs.JobAttributes.{job_group}
+use Rattle.account_replies.specs.Lines.{success_text}
 use Rattle.account_replies.specs.PrinterAttributes.{printer_group}
 use Rattle.account_replies.specs.Responses.{job_groups}
-use Rattle.account_replies.specs.declared.station_line.Success.TheVariants.{Released, Settled}
-use Rattle.account_rules.specs.declared.job.Standing.{Standing}
-use Rattle.account_state.specs.Sums.{left_in}
-use Rattle.account_replies.specs.Lines.{success_text}
 use Rattle.account_replies.specs.Words.{word_text}
+use Rattle.account_replies.specs.declared.station_line.Success.TheVariants.{Released, Settled}
 use Rattle.account_replies.specs.declared.station_line.Success.TheVariants as success
 use Rattle.account_rules.specs.Acts.{SendDocument}
 use Rattle.account_rules.specs.Devices.{Devices, rated}
 use Rattle.account_rules.specs.Moves.{move}
 use Rattle.account_rules.specs.declared.job.Job.{Job}
+use Rattle.account_rules.specs.declared.job.Standing.{Standing}
 use Rattle.account_rules.specs.declared.refusal.Refusal.{Refusal}
 use Rattle.account_rules.specs.declared.refusal.Word.{Word}
 use Rattle.account_rules.specs.declared.refusal.Word.TheVariants.{NoDevice}
 use Rattle.account_state.specs.Rooms.{RoomValue}
+use Rattle.account_state.specs.Sums.{left_in}
 
 -- ---- requests
 
@@ -87,7 +88,7 @@ request_tells room response tells true = refl
 request_tells room response tells false = tells
 
 line_tells : {A : Type 0} (room : RoomValue) (decided : Result A Word) (next : A → Step) → ((x : A) → Tells (next x)) → Tells (refusing_or room decided next)
-line_tells room (Err word) next tells = (refl, refl)
+line_tells room (Err word) next tells = (text_alike word, refl)
 line_tells room (Ok x) next tells = tells x
 
 open_tells : (room : RoomValue) (devices : Devices) (now : ℕ) (e : PlainEvent) → Tells (answered_open room devices now e)

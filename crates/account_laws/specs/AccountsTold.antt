@@ -6,7 +6,7 @@ use Rattle.std.specs.Option.{option_map_or}
 use Rattle.std.specs.Ordering.{nat_cmp}
 use Rattle.account_laws.specs.Deeds.{Deed, Opened, Made, Brought, Canceled, HeldBack, Freed, Released, Started, Settled, Granted, Switched, Rated, NoDeed, deed_of, moment_of}
 use Rattle.account_laws.specs.JobsTold.{JobTold, is_over, job_brought, job_canceled, job_freed, job_held, job_made, job_released, job_settled, job_started, units_charged, units_reserved}
-use Rattle.account_laws.specs.Lives.{Exchange, Life}
+use Rattle.account_lives.specs.Lives.{Exchange, Life}
 use Rattle.account_rules.specs.Devices.{name_cmp}
 use Rattle.account_rules.specs.Months.{month_at}
 

@@ -5,7 +5,7 @@ use Rattle.account_asks.specs.declared.operation.Operation.{Operation}
 use Rattle.account_asks.specs.declared.operation.Operation.TheVariants.{PrintJob, CreateJob, SendDocument, CancelJob, HoldJob, ReleaseJob}
 use Rattle.account_machine.specs.Events.{AccountEvent, DeviceEvent, OfAccount, OfDevice, Open, Ipp, Release, Start, Settle, Grant, Switch, Rate}
 use Rattle.account_machine.specs.declared.event.Reply.{Reply}
-use Rattle.account_laws.specs.Lives.{Exchange}
+use Rattle.account_lives.specs.Lives.{Exchange}
 use Rattle.account_laws.specs.Told.{is_documents, is_ok, is_successful, request_of}
 
 pub data Deed : Type 0 where

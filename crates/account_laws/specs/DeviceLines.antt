@@ -5,7 +5,7 @@ use Rattle.std.specs.FinMap.{get}
 use Rattle.account_machine.specs.Events.{AccountEvent, OfAccount, OfDevice, Switch, Rate}
 use Rattle.account_machine.specs.declared.event.Reply.{Reply}
 use Rattle.account_laws.specs.AccountsTold.{AccountTold, account_told}
-use Rattle.account_laws.specs.Lives.{Life, OfLives}
+use Rattle.account_lives.specs.Lives.{Life, OfLives}
 
 -- ---- what is set
 

@@ -9,7 +9,7 @@ use Rattle.account_laws.specs.HandedOnce.{hands_out}
 use Rattle.account_laws.specs.ItsOwnJob.{is_on}
 use Rattle.account_laws.specs.JobsMade.{jobs_made}
 use Rattle.account_laws.specs.JobsTold.{JobTold, is_over}
-use Rattle.account_laws.specs.Lives.{Exchange, Life, OfLives}
+use Rattle.account_lives.specs.Lives.{Exchange, Life, OfLives}
 
 -- Once a cancel is told as done, the job's documents are handed out no more. (A device that prints
 -- the job then has them already; it is not handed them again, as HandedAgain says.)

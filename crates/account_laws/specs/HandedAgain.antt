@@ -4,7 +4,7 @@ use Rattle.account_machine.specs.Events.{OfAccount, Start}
 use Rattle.account_machine.specs.declared.event.Reply.TheVariants as reply
 use Rattle.account_laws.specs.Deeds.{Deed, Canceled, deed_of}
 use Rattle.account_laws.specs.HandedOnce.{hands_out, settles}
-use Rattle.account_laws.specs.Lives.{Exchange, IsLife, Life}
+use Rattle.account_lives.specs.Lives.{Exchange, IsLife, Life}
 use Rattle.account_questions.specs.Questions.{answer_about}
 use Rattle.account_questions.specs.declared.question.About.TheVariants.{Again}
 use Rattle.account_replies.specs.declared.part.Part.{Part}

@@ -7,7 +7,7 @@ use Rattle.account_machine.specs.declared.event.Reply.TheVariants as reply
 use Rattle.account_laws.specs.Deeds.{Deed, Brought, Started, deed_of}
 use Rattle.account_laws.specs.JobsMade.{IsMadeBy}
 use Rattle.account_laws.specs.JobsTold.{Sent, brought_first, brought_next}
-use Rattle.account_laws.specs.Lives.{Exchange, Life, OfLives}
+use Rattle.account_lives.specs.Lives.{Exchange, Life, OfLives}
 use Rattle.account_laws.specs.StationAnswers.{part_told}
 use Rattle.account_laws.specs.Told.{is_documents}
 use Rattle.account_replies.specs.declared.part.Part.{Part}

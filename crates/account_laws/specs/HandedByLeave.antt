@@ -7,7 +7,7 @@ use Rattle.account_laws.specs.AccountsTold.{account_told}
 use Rattle.account_laws.specs.Deeds.{Deed, Canceled, HeldBack, Freed, Released, Started, deed_of}
 use Rattle.account_laws.specs.JobsMade.{IsMadeBy}
 use Rattle.account_laws.specs.JobsTold.{JobTold, Waits}
-use Rattle.account_laws.specs.Lives.{Exchange, Life, OfLives}
+use Rattle.account_lives.specs.Lives.{Exchange, Life, OfLives}
 
 -- the password that a release at a station gives; no other event gives one
 abbrev pub given_in : PlainEvent → List ℕ

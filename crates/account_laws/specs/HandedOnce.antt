@@ -2,7 +2,7 @@
 -- own).
 use Rattle.std.specs.Prelude.{ℕ, ◌≤◌, ◌==◌, Bool, false, count_by}
 use Rattle.account_laws.specs.Deeds.{Deed, Started, Settled, deed_of}
-use Rattle.account_laws.specs.Lives.{Exchange, OfLives}
+use Rattle.account_lives.specs.Lives.{Exchange, OfLives}
 
 abbrev pub hands_out : (number : ℕ) → Deed → Bool
 hands_out number (Started device job) = number == job

@@ -9,7 +9,7 @@ use Rattle.account_machine.specs.declared.event.Reply.{Reply}
 use Rattle.account_laws.specs.AccountsTold.{AccountTold, account_told}
 use Rattle.account_laws.specs.Deeds.{Deed, Made, Brought, Canceled, HeldBack, Freed, Released, Started, Settled, deed_of}
 use Rattle.account_laws.specs.JobsMade.{is_making, jobs_made}
-use Rattle.account_laws.specs.Lives.{Exchange, IsLife, Life, OfLives}
+use Rattle.account_lives.specs.Lives.{Exchange, IsLife, Life, OfLives}
 use Rattle.account_laws.specs.Told.{is_documents, is_ok, is_successful, request_of}
 use Rattle.account_rules.specs.Devices.{Devices}
 use Rattle.account_state.specs.Rooms.{RoomValue}

@@ -2,7 +2,7 @@
 use Rattle.std.specs.Prelude.{◌≡◌, ℕ, ◌+◌, Bool, true, false, count_by, ◌∷◌, ◌++◌}
 use Rattle.account_asks.specs.Asks.{PlainAsk}
 use Rattle.account_laws.specs.Deeds.{Deed, Made, deed_of}
-use Rattle.account_laws.specs.Lives.{Exchange, Life}
+use Rattle.account_lives.specs.Lives.{Exchange, Life}
 
 abbrev pub is_making : Deed → Bool
 is_making (Made ask) = true

@@ -32,6 +32,10 @@ pub record JobTold : Type 0 where
   pub is_open : Bool
   -- the impressions of one copy, 0 where nobody said
   pub impressions : ℕ
+  -- the device that it was released for or that began it, and the rate of its release; none and 1
+  -- where nobody released it, or a hold took that back
+  pub device : Option (List ℕ)
+  pub rate : ℕ
   pub stage : Stage
 
 -- ---- documents
@@ -61,6 +65,8 @@ job_made now ask = record {
   documents = brought_first ask ask.operation;
   is_open = is_left_open ask.operation;
   impressions = ask.impressions;
+  device = None;
+  rate = 1;
   stage = Waits;
 }
 
@@ -79,13 +85,13 @@ stage_canceled now (HasEnded how count units since at) = HasEnded how count unit
 abbrev pub job_canceled : (now : ℕ) → JobTold → JobTold
 job_canceled now job = record job { stage = stage_canceled now job.stage }
 
--- its release is taken back
+-- its release is taken back, with its device and its rate
 abbrev pub stage_held : Stage → Stage
 stage_held (IsFree device rate units) = Waits
 stage_held stage = stage
 
 abbrev pub job_held : JobTold → JobTold
-job_held job = record job { stage = stage_held job.stage }
+job_held job = record job { device = None; rate = 1; stage = stage_held job.stage }
 
 -- one that waits is released, and what it needs is reserved; any other stays as it is
 abbrev pub stage_released : (device : Option (List ℕ)) (rate units : ℕ) → Stage → Stage
@@ -96,7 +102,7 @@ stage_released device rate units stage = stage
 abbrev pub need_told : (impressions rate : ℕ) → JobTold → ℕ
 need_told impressions rate job = impressions * job.maker.copies * rate
 
--- over IPP for any device, at rate 1
+-- over IPP for any device and at rate 1, which one that waits has already
 abbrev pub job_freed : JobTold → JobTold
 job_freed job =
     record job { stage = stage_released None 1 (need_told job.impressions 1 job) job.stage }
@@ -111,6 +117,8 @@ job_released device rate handed_in job =
     let impressions = impressions_told handed_in job in
     record job {
       impressions = impressions;
+      device = Some device;
+      rate = rate;
       stage = stage_released (Some device) rate (need_told impressions rate job) job.stage;
     }
 
@@ -118,8 +126,10 @@ abbrev pub stage_started : (device : List ℕ) (now : ℕ) → Stage → Stage
 stage_started device now (IsFree for rate units) = Prints device rate units now false
 stage_started device now stage = stage
 
+-- the device has it from then on
 abbrev pub job_started : (device : List ℕ) (now : ℕ) → JobTold → JobTold
-job_started device now job = record job { stage = stage_started device now job.stage }
+job_started device now job =
+    record job { device = Some device; stage = stage_started device now job.stage }
 
 -- canceled, failed or done (RFC 8011 section 5.3.7)
 abbrev pub end_told : (is_canceled failed : Bool) → JobState

@@ -3,7 +3,7 @@ use Rattle.std.specs.Prelude.{◌≡◌, ℕ, ◌++◌, Some}
 use Rattle.std.specs.FinMap.{get}
 use Rattle.account_laws.specs.AccountsTold.{AccountTold, account_told}
 use Rattle.account_laws.specs.JobsTold.{JobTold}
-use Rattle.account_laws.specs.Lives.{Life, OfLives}
+use Rattle.account_lives.specs.Lives.{Life, OfLives}
 
 -- the job is there, made by the same request at the same moment, so with the same name, password
 -- and copies

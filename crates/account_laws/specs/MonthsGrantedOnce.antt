@@ -6,7 +6,7 @@ use Rattle.account_machine.specs.declared.event.Reply.{Reply}
 use Rattle.account_machine.specs.declared.event.Reply.TheVariants as reply
 use Rattle.account_laws.specs.AccountsTold.{AccountTold, account_told}
 use Rattle.account_laws.specs.Deeds.{Deed, Granted, deed_of}
-use Rattle.account_laws.specs.Lives.{Exchange, Life, OfLives}
+use Rattle.account_lives.specs.Lives.{Exchange, Life, OfLives}
 use Rattle.account_laws.specs.OperatorAnswers.{month_answer}
 
 -- a grant of a month, with what it was told

@@ -12,7 +12,7 @@ use Rattle.account_laws.specs.AccountsTold.{account_told}
 use Rattle.account_laws.specs.AsksLieWithin.{AreBytes}
 use Rattle.account_laws.specs.Deeds.{deed_of}
 use Rattle.account_laws.specs.JobsMade.{is_making, jobs_made}
-use Rattle.account_laws.specs.Lives.{Exchange, Life, OfLives}
+use Rattle.account_lives.specs.Lives.{Exchange, Life, OfLives}
 use Rattle.account_rules.specs.Limits.{longest_name}
 
 -- The message that an answer's bytes spell tells a number by the attribute job-id of its first

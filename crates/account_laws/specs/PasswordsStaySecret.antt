@@ -5,16 +5,16 @@ use Rattle.std.specs.Option.{option_map_or}
 use Rattle.ipp_coding.specs.Limits.{header_length}
 use Rattle.ipp_coding.specs.Reading.{header_in}
 use Rattle.account_asks.specs.Asks.{PlainAsk, PlainRefusal, ask_of}
-use Rattle.account_machine.specs.Events.{PlainEvent, OfAccount, Ipp, Release}
-use Rattle.account_machine.specs.declared.event.Reply.{Reply}
-use Rattle.account_machine.specs.declared.event.Reply.TheVariants as reply
 use Rattle.account_laws.specs.AccountsTold.{AccountTold, account_told, after_exchange, nothing_told}
 use Rattle.account_laws.specs.Deeds.{moment_of}
 use Rattle.account_laws.specs.JobsTold.{JobTold}
-use Rattle.account_laws.specs.Lives.{Exchange, IsLife, Life}
+use Rattle.account_laws.specs.RefusalTexts.{text_of}
 use Rattle.account_laws.specs.StationAnswers.{is_wrong}
 use Rattle.account_laws.specs.Told.{is_ok}
-use Rattle.account_replies.specs.Words.{word_text}
+use Rattle.account_lives.specs.Lives.{Exchange, IsLife, Life}
+use Rattle.account_machine.specs.Events.{PlainEvent, OfAccount, Ipp, Release}
+use Rattle.account_machine.specs.declared.event.Reply.{Reply}
+use Rattle.account_machine.specs.declared.event.Reply.TheVariants as reply
 use Rattle.account_rules.specs.Devices.{Devices}
 use Rattle.account_rules.specs.declared.refusal.Word.TheVariants.{Password}
 use Rattle.account_state.specs.Rooms.{RoomValue}
@@ -87,7 +87,7 @@ PasswordsStaySecret =
 -- it is not done: it is told to be wrong, or what the right one would have been told
 pub record OpensNothing (wrong right : Reply) : Type 0 where
   pub not_done : is_ok wrong ≡ false
-  pub told : (wrong ≡ reply.Line (word_text Password)) ⊎ (wrong ≡ right)
+  pub told : (wrong ≡ reply.Line (text_of Password)) ⊎ (wrong ≡ right)
 
 -- So is every release of a job, at a station, with another password than the request gave that made
 -- it, whatever was told before; the right one is that request's.

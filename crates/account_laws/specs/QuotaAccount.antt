@@ -6,7 +6,7 @@ use Rattle.std.specs.Option.{option_map_or}
 use Rattle.account_laws.specs.AccountsTold.{AccountTold, account_told, after_exchange, charged_told, granted_told, left_told, nothing_told, rate_told, reserved_told}
 use Rattle.account_laws.specs.Deeds.{Deed, Canceled, Freed, Granted, HeldBack, Released, Settled, deed_of, moment_of}
 use Rattle.account_laws.specs.JobsTold.{JobTold, Stage, IsFree, need_told, units_reserved}
-use Rattle.account_laws.specs.Lives.{Exchange, Life, OfLives}
+use Rattle.account_lives.specs.Lives.{Exchange, Life, OfLives}
 use Rattle.account_laws.specs.StationAnswers.{charge_of, is_waiting, need_at}
 
 -- ---- what each deed comes to

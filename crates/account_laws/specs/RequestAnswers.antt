@@ -16,7 +16,7 @@ use Rattle.account_machine.specs.declared.event.Reply.TheVariants as reply
 use Rattle.account_laws.specs.AccountsTold.{AccountTold, account_told, left_told, unfinished_told}
 use Rattle.account_laws.specs.DoneAnswers.{groups_told}
 use Rattle.account_laws.specs.JobsTold.{JobTold, is_over, is_printing, is_stopping, need_told}
-use Rattle.account_laws.specs.Lives.{Life, OfLives}
+use Rattle.account_lives.specs.Lives.{Life, OfLives}
 use Rattle.account_laws.specs.Refusals.{Check, first_refusal}
 use Rattle.account_laws.specs.StationAnswers.{is_past, is_waiting}
 use Rattle.account_replies.specs.Responses.{done_text, refused_text}

@@ -4,7 +4,7 @@ use Rattle.std.specs.FinMap.{get}
 use Rattle.account_machine.specs.Events.{PlainEvent, Timed, OfAccount, OfDevice}
 use Rattle.account_machine.specs.Fits.{fits}
 use Rattle.account_machine.specs.Rates.{AreRated}
-use Rattle.account_laws.specs.Lives.{Exchange, IsLife, Life}
+use Rattle.account_lives.specs.Lives.{Exchange, IsLife, Life}
 use Rattle.account_rules.specs.Devices.{Devices}
 use Rattle.account_rules.specs.Limits.{IsMoment}
 use Rattle.account_rules.specs.Names.{is_name}

@@ -8,8 +8,8 @@ use Rattle.ipp_coding.specs.Plain.{PlainAttribute, PlainGroup, PlainValue}
 use Rattle.ipp_coding.specs.Values.{IsTextWithLanguage}
 use Rattle.account_asks.specs.declared.ask.Which.{Which}
 use Rattle.account_asks.specs.declared.ask.Which.TheVariants.{NotCompleted, Completed}
-use Rattle.account_rules.specs.Formats.{media_type}
 use Rattle.account_rules.specs.declared.format.Format.{Format}
+use Rattle.account_rules.specs.declared.format.Format.TheVariants.{OctetStream, Pdf, PostScript, Jpeg, PwgRaster, Urf, Plain}
 
 -- ---- attributes and groups
 
@@ -71,6 +71,16 @@ abbrev pub IsName : PlainValue → List ℕ → Type 0
 IsName value text =
     IsUnder 0x42 value text ⊎ ((value.tag ≡ 0x36) × IsTextWithLanguage value.bytes text)
 
+-- the media types of the formats (RFC 8011 section 5.4.22)
+abbrev pub media_type_of : Format → List ℕ
+media_type_of OctetStream = codes "application/octet-stream"
+media_type_of Pdf = codes "application/pdf"
+media_type_of PostScript = codes "application/postscript"
+media_type_of Jpeg = codes "image/jpeg"
+media_type_of PwgRaster = codes "image/pwg-raster"
+media_type_of Urf = codes "image/urf"
+media_type_of Plain = codes "text/plain"
+
 -- a mimeMediaType 0x49: letters without case; parameters, behind a ";" (59), do not count
 pub record IsMediaType (value : PlainValue) (format : Format) : Type 0 where
   pub named : List ℕ
@@ -78,7 +88,7 @@ pub record IsMediaType (value : PlainValue) (format : Format) : Type 0 where
   pub is : IsUnder 0x49 value (named ++ parameters)
   pub goes_on : AllByRecursion (λ (c : ℕ). c ≢ 59) named
   pub is_behind : (parameters ≡ []) ⊎ ((rest : List ℕ) × (parameters ≡ 59 ∷ rest))
-  pub names : str_eq_ignore_ascii_case named (media_type format) ≡ true
+  pub names : str_eq_ignore_ascii_case named (media_type_of format) ≡ true
 
 -- a keyword 0x44 of which-jobs (RFC 8011 section 4.2.6.1)
 abbrev pub which_keyword : Which → List ℕ

@@ -3,14 +3,14 @@ use Rattle.std.specs.Prelude.{◌≡◌, ℕ, ◌*◌, Bool, true, false, List, 
 use Rattle.std.specs.FinMap.{empty, get}
 use Rattle.account_laws.specs.AccountsTold.{AccountTold, account_told, rate_told}
 use Rattle.account_laws.specs.JobsTold.{JobTold, Sent, Stage, Waits, IsFree, Prints, HasEnded}
-use Rattle.account_laws.specs.Lives.{IsLife, Life}
+use Rattle.account_lives.specs.Lives.{IsLife, Life}
 use Rattle.account_rules.specs.Devices.{Devices}
 use Rattle.account_rules.specs.JobStates.{has_ended, is_unfinished}
 use Rattle.account_rules.specs.declared.device.Device.{Device}
 use Rattle.account_rules.specs.declared.job.Document.{Document}
 use Rattle.account_rules.specs.declared.job.Job.{Job}
 use Rattle.account_rules.specs.declared.job.JobState.{JobState}
-use Rattle.account_rules.specs.declared.job.JobState.TheVariants.{Held, Pending, Processing}
+use Rattle.account_rules.specs.declared.job.JobState.TheVariants.{Held, Pending, Processing, Canceled}
 use Rattle.account_rules.specs.declared.job.Standing.{Standing}
 use Rattle.account_state.specs.Documents.{documents_of}
 use Rattle.account_state.specs.Rooms.{RoomValue}
@@ -19,6 +19,8 @@ use Rattle.account_state.specs.Rooms.{RoomValue}
 
 pub record IsWaiting (s : Standing) : Type 0 where
   pub state : s.state ≡ Held
+  pub bound : s.device ≡ None
+  pub rated : s.rate ≡ 1
   pub reserved : s.reserved ≡ 0
   pub charged : s.charged ≡ 0
   pub stopping : s.stopping ≡ false
@@ -46,10 +48,17 @@ pub record IsPrinting (device : List ℕ) (rate units since : ℕ) (is_canceled 
   pub started : s.started ≡ Some since
   pub ended : s.ended ≡ None
 
+-- a job was canceled while a device printed it, and that device settled it
+abbrev pub was_stopped : (how : JobState) (since : Option ℕ) → Bool
+was_stopped Canceled (Some since) = true
+was_stopped _ _ = false
+
 pub record IsOver (how : JobState) (count units : ℕ) (since : Option ℕ) (at : ℕ) (s : Standing)
     : Type 0 where
   pub state : s.state ≡ how
   pub is_end : has_ended how ≡ true
+  pub closed : s.is_open ≡ false
+  pub stopping : s.stopping ≡ was_stopped how since
   pub reserved : s.reserved ≡ 0
   pub charged : s.charged ≡ units
   pub counted : s.charged ≡ count * s.rate
@@ -75,6 +84,8 @@ pub record IsAsTold (number : ℕ) (told : JobTold) (room : RoomValue) (job : Jo
   pub created : job.standing.created ≡ told.made
   pub impressions : job.standing.impressions ≡ told.impressions
   pub count : job.standing.documents ≡ length told.documents
+  pub bound : job.standing.device ≡ told.device
+  pub rated : job.standing.rate ≡ told.rate
   pub stage : IsAt told.stage job.standing
   pub is_open : is_unfinished job.standing.state ≡ true → job.standing.is_open ≡ told.is_open
   pub documents : is_unfinished job.standing.state ≡ true

@@ -3,15 +3,15 @@ use Rattle.std.specs.Prelude.{◌≡◌, ℕ, ◌*◌, ◌==◌, ℤ, pos, negsu
 use Rattle.std.specs.FinMap.{get}
 use Rattle.std.specs.Fmt.{decimal, signed_decimal}
 use Rattle.std.specs.Option.{option_map_or}
-use Rattle.account_machine.specs.Events.{OfAccount, Release, Start, Settle}
-use Rattle.account_machine.specs.declared.event.Reply.{Reply}
-use Rattle.account_machine.specs.declared.event.Reply.TheVariants as reply
 use Rattle.account_laws.specs.AccountsTold.{AccountTold, account_told, after_deed, left_told, rate_told}
 use Rattle.account_laws.specs.Deeds.{Released, Settled}
 use Rattle.account_laws.specs.JobsTold.{JobTold, Sent, Stage, Waits, IsFree, Prints, impressions_told, need_told}
-use Rattle.account_laws.specs.Lives.{Life, OfLives}
+use Rattle.account_laws.specs.RefusalTexts.{text_of}
 use Rattle.account_laws.specs.Refusals.{Check, first_refusal}
-use Rattle.account_replies.specs.Words.{word_text}
+use Rattle.account_lives.specs.Lives.{Life, OfLives}
+use Rattle.account_machine.specs.Events.{OfAccount, Release, Start, Settle}
+use Rattle.account_machine.specs.declared.event.Reply.{Reply}
+use Rattle.account_machine.specs.declared.event.Reply.TheVariants as reply
 use Rattle.account_replies.specs.declared.part.Part.{Part}
 use Rattle.account_rules.specs.Formats.{media_type}
 use Rattle.account_rules.specs.declared.refusal.Word.{Word}
@@ -22,7 +22,7 @@ use Rattle.account_rules.specs.declared.refusal.Word.TheVariants.{DeviceOff, Imp
 -- a refusal is told by its word
 abbrev pub line_of : (refused : Option Word) (done : Reply) → Reply
 line_of None done = done
-line_of (Some word) done = reply.Line (word_text word)
+line_of (Some word) done = reply.Line (text_of word)
 
 -- a station speaks for a device that is known
 abbrev pub device_checks : (told : AccountTold) (device : List ℕ) → List (Check Word)
@@ -47,7 +47,7 @@ account_checks told checks = (is_none told.opened, NoAccount) ∷ checks
 -- the job that is acted on, and what is told of it
 abbrev pub with_its_job : (told : AccountTold) (number : ℕ) (done : JobTold → Reply) → Reply
 with_its_job told number done =
-    option_map_or done (get told.jobs number) (reply.Line (word_text NoJob))
+    option_map_or done (get told.jobs number) (reply.Line (text_of NoJob))
 
 -- ---- release
 
@@ -123,6 +123,10 @@ part_told number copies sent = record {
 }
 
 -- all that was sent for the job, in order, with the copies that its maker asked for
+abbrev pub documents_told : (number : ℕ) → JobTold → Reply
+documents_told number job =
+    reply.Documents (map (part_told number job.maker.copies) job.documents)
+
 abbrev pub start_answer :
     (told : AccountTold) (device : List ℕ) (number : ℕ) → Reply
 start_answer told device number =
@@ -131,8 +135,7 @@ start_answer told device number =
     (account_checks told
     (ready_checks told device
     ++ job_checks told number (λ (job : JobTold). start_checks told device job.stage))))
-    (with_its_job told number (λ (job : JobTold).
-    reply.Documents (map (part_told number job.maker.copies) job.documents)))
+    (with_its_job told number (documents_told number))
 
 -- ---- settle
 

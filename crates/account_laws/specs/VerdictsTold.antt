@@ -2,6 +2,7 @@
 use Rattle.std.specs.Prelude.{◌≡◌, ℕ, List, Option}
 use Rattle.ipp_coding.specs.Plain.{PlainAttribute, PlainGroup}
 use Rattle.ipp_coding.specs.declared.message.Header.{Header}
+use Rattle.account_laws.specs.RefusalTexts.{text_of}
 use Rattle.account_machine.specs.DeviceEvents.{device_answered}
 use Rattle.account_machine.specs.Events.{PlainEvent}
 use Rattle.account_machine.specs.Machine.{answered}
@@ -12,7 +13,6 @@ use Rattle.account_machine.specs.declared.verdict.Verdict.{Verdict}
 use Rattle.account_machine.specs.declared.verdict.Verdict.TheVariants.{Done, Refused}
 use Rattle.account_replies.specs.Lines.{success_text}
 use Rattle.account_replies.specs.Responses.{done_text, refused_text, success_status}
-use Rattle.account_replies.specs.Words.{word_text}
 use Rattle.account_replies.specs.declared.station_line.Success.{Success}
 use Rattle.account_rules.specs.Devices.{Devices}
 use Rattle.account_rules.specs.declared.refusal.Word.TheVariants.{NoAccount}
@@ -30,7 +30,7 @@ ResponseTells text (Done status job) =
 -- a line: the word that tells why, or a success
 abbrev pub LineTells : (text : List ℕ) → Verdict → Type 0
 LineTells text (Refused refusal job) =
-    (text ≡ word_text refusal.word) × (Refused refusal job ≡ line_refused refusal.word)
+    (text ≡ text_of refusal.word) × (Refused refusal job ≡ line_refused refusal.word)
 LineTells text (Done status job) =
     (success : Success) × (text ≡ success_text success) × (Done status job ≡ line_done)
 

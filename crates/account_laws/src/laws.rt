@@ -2,7 +2,8 @@
 //! Nobody calls them at run time; docs/PROMISES.md lists them.
 
 ghost use Rattle.account_laws.specs.AsksLieWithin.{AsksLieWithin};
-ghost use Rattle.account_laws.specs.Lives.{LivesGoOn, LivesLeaveOne};
+ghost use Rattle.account_laws.specs.CalendarMonths.{MonthsAreTheCalendars};
+ghost use Rattle.account_laws.specs.NothingElseKept.{NothingElseIsKept};
 ghost use Rattle.account_laws.specs.RoomsStay.{RoomsStay};
 ghost use Rattle.account_laws.specs.StandsAsTold.{LeavesAsTold};
 
@@ -19,18 +20,24 @@ pub fn asks_lie_within()
     ensures { AsksLieWithin }
 {}
 
-/// Law: a life goes on, as what leads on from what a life left is more of that life. And a life
-/// leaves one room and one set of devices. By this a life goes on over restarts.
-#[tactic(auto, using(crate::proofs::LifeLemmas::lives_go_on, crate::proofs::LifeLemmas::lives_leave_one))]
-pub fn lives_go_on()
-    ensures on { LivesGoOn }
-    ensures one { LivesLeaveOne }
-{}
-
 /// Law: your account stands as you were told, each job with what its maker asked, what was sent for
 /// it and where the answers since have it; its grants as they were granted; and the devices as the
 /// lines on them were answered.
 #[tactic(auto, using(crate::proofs::AsTold::leaves_as_told))]
 pub fn leaves_as_told()
     ensures { LeavesAsTold }
+{}
+
+/// Law: a moment lies in the month that the calendar gives. Grants count from that month on, and
+/// charges in it.
+#[tactic(auto, using(crate::proofs::CalendarMonths::months_are_the_calendars))]
+pub fn months_are_the_calendars()
+    ensures { MonthsAreTheCalendars }
+{}
+
+/// Law: all that there is of your account was asked and told. Two lives that tell the same leave the
+/// same account, with every job and every document, and the same devices: nothing else is kept.
+#[tactic(auto, using(crate::proofs::NothingElseKept::nothing_else_is_kept))]
+pub fn nothing_else_is_kept()
+    ensures { NothingElseIsKept }
 {}

@@ -7,6 +7,7 @@ ghost use Rattle.account_laws.specs.HandedOnce.{HandedOnce, SettledOnceAtMost};
 ghost use Rattle.account_laws.specs.HandedAsSent.{HandedAsSent, HandedAtStarts};
 ghost use Rattle.account_laws.specs.ItsOwnJob.{ItsOwnJobOnly, ReadsAndRefusalsDoNothing};
 ghost use Rattle.account_laws.specs.OtherPasswords.{AlikeButForPassword};
+ghost use Rattle.account_laws.specs.PasswordsInQuestions.{PasswordsStaySecretInQuestions};
 ghost use Rattle.account_laws.specs.PasswordsStaySecret.{PasswordsStaySecret, WrongPasswordsOpenNothing};
 ghost use Rattle.account_laws.specs.DoneStays.{CanceledIsNotHandedOut, ClosedTakesNoMore, EndedStays, HeldWaitsForRelease};
 
@@ -58,12 +59,13 @@ pub fn its_own_job_only()
     ensures none { ReadsAndRefusalsDoNothing }
 {}
 
-/// Law: the password of your job shows in no answer. Had you given another one, all would have been
-/// told the same, if at stations the right one is given wherever it was, and a wrong one wherever a
-/// wrong one was. Two bodies that spell one message but for the password are such requests. And a
-/// wrong password releases nothing.
+/// Law: the password of your job shows in no answer, to an event or to a question, in lines or on
+/// pages. Had you given another one, all would have been told the same, if at stations the right one
+/// is given wherever it was, and a wrong one wherever a wrong one was. Two bodies that spell one
+/// message but for the password are such requests. And a wrong password releases nothing.
 pub fn passwords_stay_secret()
     ensures secret { PasswordsStaySecret }
+    ensures questions { PasswordsStaySecretInQuestions }
     ensures bodies { AlikeButForPassword }
     ensures wrong { WrongPasswordsOpenNothing }
 {}

@@ -4,7 +4,7 @@
 ghost use Rattle.account_laws.specs.LastingJobs.{JobsStay};
 ghost use Rattle.account_laws.specs.NewNumbers.{JobsAreCounted, NumbersAreKept, NumbersDiffer};
 ghost use Rattle.account_laws.specs.RequestAnswers.{RequestsAreAnswered};
-ghost use Rattle.account_laws.specs.SpelledAsks.{AsksAreSpelled};
+ghost use Rattle.account_laws.specs.SpelledAsks.{AsksAreSpelled, SpelledAsksAreTaken};
 
 /// Law: your request is done exactly where nothing stands against it, and else is refused for the
 /// first thing that does, in the order of the checks, by what you were told before. What is done is
@@ -32,8 +32,9 @@ pub fn jobs_stay()
 {}
 
 /// Law: what you ask is what your request's bytes spell. Its one message has the operation, the
-/// target, the fields that the operation reads, and behind its end the data, whole.
-#[tactic(auto, using(crate::proofs::SpelledAsks::asks_are_spelled))]
+/// target, the fields that the operation reads, each within its limits, and behind its end the data,
+/// whole. And a request whose bytes spell such a message passes its checks, and asks just that.
 pub fn asks_are_spelled()
-    ensures { AsksAreSpelled }
+    ensures spelled { AsksAreSpelled }
+    ensures taken { SpelledAsksAreTaken }
 {}

@@ -10,8 +10,8 @@ use Rattle.sqlite_trees.specs.declared.store.Store.{Ghosts}
 use Rattle.account_machine.specs.Events.{Timed, OfAccount, OfDevice}
 use Rattle.account_machine.specs.declared.event.Reply.{Reply}
 use Rattle.account_machine.specs.declared.event.Reply.TheVariants.{Short}
-use Rattle.account_laws.proofs.LifeLemmas.{lives_go_on}
-use Rattle.account_laws.specs.Lives.{Exchange, Life}
+use Rattle.account_lives.proofs.LifeLemmas.{lives_go_on}
+use Rattle.account_lives.specs.Lives.{Exchange, Life}
 use Rattle.store_events.specs.Applied.{Applies}
 use Rattle.store_events.specs.Events.{IsShort}
 use Rattle.rows_tables.specs.Calls.{LeavesNoMore}

@@ -11,8 +11,8 @@ use Rattle.account_machine.specs.DeviceEvents.{device_answered}
 use Rattle.account_machine.specs.Events.{Timed, OfAccount, OfDevice}
 use Rattle.account_machine.specs.Machine.{answered}
 use Rattle.account_machine.specs.declared.event.Reply.{Reply}
-use Rattle.account_laws.proofs.LifeLemmas.{lives_go_on}
-use Rattle.account_laws.specs.Lives.{Exchange, Life}
+use Rattle.account_lives.proofs.LifeLemmas.{lives_go_on}
+use Rattle.account_lives.specs.Lives.{Exchange, Life}
 use Rattle.store_events.specs.Applied.{Applies, IsDone}
 use Rattle.store_rounds.specs.declared.fault.StoreFault.{StoreFault}
 use Rattle.rows_tables.proofs.AgreedRows.{still_devices, still_holds}

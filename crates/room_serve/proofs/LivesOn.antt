@@ -7,8 +7,8 @@ use Rattle.account_machine.specs.DeviceEvents.{device_answered}
 use Rattle.account_machine.specs.Events.{Timed, OfAccount, OfDevice}
 use Rattle.account_machine.specs.Machine.{answered}
 use Rattle.account_machine.specs.declared.event.Reply.{Reply}
-use Rattle.account_laws.proofs.LifeLemmas.{lives_go_on}
-use Rattle.account_laws.specs.Lives.{LeadsTo, Life}
+use Rattle.account_lives.proofs.LifeLemmas.{lives_go_on}
+use Rattle.account_lives.specs.Lives.{LeadsTo, Life}
 use Rattle.account_rules.specs.Devices.{Devices}
 use Rattle.account_state.specs.Rooms.{RoomValue}
 use Rattle.store_events.specs.Applied.{Applies}

@@ -10,7 +10,7 @@ use Rattle.listen_http.specs.Exchange.{Takes}
 use Rattle.listen_http.specs.Http.{Http, Carried}
 use Rattle.input_http.specs.Texts.{interim_text}
 use Rattle.listen_http.specs.declared.judging.Order.{Order}
-use Rattle.account_laws.specs.Lives.{Life}
+use Rattle.account_lives.specs.Lives.{Life}
 use Rattle.store_rounds.specs.declared.fault.StoreFault.{StoreFault}
 use Rattle.rows_tables.specs.Calls.{IfOurTables}
 use Rattle.room_serve.specs.Exchanges.{AppendsBehind, AppliesMessage, text_told}

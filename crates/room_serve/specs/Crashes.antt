@@ -8,7 +8,7 @@ use Rattle.sqlite_trees.specs.declared.store.Store.{Ghosts}
 use Rattle.account_machine.specs.Events.{Timed}
 use Rattle.account_machine.specs.declared.event.Reply.{Reply}
 use Rattle.account_machine.specs.declared.event.Reply.TheVariants.{Short}
-use Rattle.account_laws.specs.Lives.{Life}
+use Rattle.account_lives.specs.Lives.{Life}
 use Rattle.store_events.specs.Applied.{Applies}
 use Rattle.store_rounds.specs.declared.fault.StoreFault.{StoreFault}
 use Rattle.rows_tables.specs.Calls.{IfOurTables}

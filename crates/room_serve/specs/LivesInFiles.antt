@@ -6,7 +6,7 @@ use Rattle.sqlite.specs.Held.{Held, state}
 use Rattle.sqlite_trees.specs.declared.store.Store.{Ghosts}
 use Rattle.account_machine.specs.Events.{Timed, OfAccount, Ipp}
 use Rattle.account_machine.specs.declared.event.Reply.{Reply}
-use Rattle.account_laws.specs.Lives.{IsLife, Life}
+use Rattle.account_lives.specs.Lives.{IsLife, Life}
 use Rattle.account_rules.specs.Devices.{Devices}
 use Rattle.account_state.specs.Rooms.{RoomValue}
 use Rattle.room_store.specs.Opening.{MigratesDevices, OpensDevices, OpensRows}

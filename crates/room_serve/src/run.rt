@@ -5,7 +5,7 @@ ghost use Rattle.sqlite.specs.Held.{state};
 ghost use Rattle.sqlite_trees.specs.Tree.{Trees};
 ghost use Rattle.account_machine.specs.Events.{plain_event, plain_timed};
 ghost use Rattle.account_machine.specs.Fits.{fits};
-ghost use Rattle.account_laws.specs.Lives.{Life};
+ghost use Rattle.account_lives.specs.Lives.{Life};
 ghost use Rattle.rows_tables.specs.Calls.{KeepsConnection, IfOurTables};
 ghost use Rattle.rows_tables.specs.Keyed.{HasSchema};
 ghost use Rattle.room_serve.specs.Crashes.{IsFound};

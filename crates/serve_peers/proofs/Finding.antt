@@ -6,7 +6,7 @@ use Rattle.sqlite.specs.Held.{Held, state}
 use Rattle.sqlite.specs.State.{HasCleanDisk}
 use Rattle.sqlite_trees.specs.Tree.{Trees}
 use Rattle.sqlite_trees.specs.declared.store.Store.{Ghosts}
-use Rattle.account_laws.specs.Lives.{Life}
+use Rattle.account_lives.specs.Lives.{Life}
 use Rattle.account_machine.specs.Verdicts.{reply_of}
 use Rattle.room_serve.proofs.FoundLives.{found_of, under_way_is_found}
 use Rattle.room_serve.proofs.LivesOn.{lives_go_on_in_runs}

@@ -6,7 +6,7 @@ use Rattle.sqlite_trees.specs.Tree.{Trees}
 use Rattle.sqlite_trees.specs.declared.store.Store.{Ghosts}
 use Rattle.account_machine.specs.Verdicts.{reply_of}
 use Rattle.account_machine.specs.declared.verdict.Answered.{Answered}
-use Rattle.account_laws.specs.Lives.{Life}
+use Rattle.account_lives.specs.Lives.{Life}
 use Rattle.store_rounds.specs.declared.fault.StoreFault.{StoreFault}
 use Rattle.rows_tables.specs.Calls.{IfOurTables}
 use Rattle.rows_tables.specs.Crashes.{IsOnDisk}

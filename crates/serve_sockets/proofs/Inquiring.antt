@@ -8,8 +8,8 @@ use Rattle.sqlite.specs.State.{HasCleanDisk}
 use Rattle.sqlite_value.specs.Order.{Row}
 use Rattle.sqlite_trees.specs.declared.store.Store.{Ghosts}
 use Rattle.account_machine.specs.declared.event.Reply.{Reply}
-use Rattle.account_laws.proofs.LifeLemmas.{lives_leave_one}
-use Rattle.account_laws.specs.Lives.{IsLife, Life}
+use Rattle.account_lives.proofs.LifeLemmas.{lives_leave_one}
+use Rattle.account_lives.specs.Lives.{IsLife, Life}
 use Rattle.account_questions.specs.Questions.{ConcernsNames, ConcernsNoOther}
 use Rattle.account_questions.specs.declared.question.Question.{Question}
 use Rattle.account_rules.specs.Devices.{Devices}

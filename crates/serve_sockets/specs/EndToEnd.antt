@@ -5,7 +5,7 @@ use Rattle.slab.specs.Slab.{Slab, get}
 use Rattle.sqlite.specs.Held.{Held, state}
 use Rattle.sqlite_trees.specs.Tree.{Trees}
 use Rattle.sqlite_trees.specs.declared.store.Store.{Ghosts}
-use Rattle.account_laws.specs.Lives.{Life}
+use Rattle.account_lives.specs.Lives.{Life}
 use Rattle.rows_tables.specs.Calls.{IfOurTables}
 use Rattle.rows_tables.specs.Crashes.{IsOnDisk}
 use Rattle.room_serve.specs.Crashes.{IsFound}

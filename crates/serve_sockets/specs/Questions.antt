@@ -4,7 +4,7 @@ use Rattle.sqlite.specs.Effect.{Database}
 use Rattle.sqlite.specs.Held.{Held}
 use Rattle.sqlite_trees.specs.declared.store.Store.{Ghosts}
 use Rattle.account_machine.specs.declared.event.Reply.{Reply}
-use Rattle.account_laws.specs.Lives.{IsLife, Life}
+use Rattle.account_lives.specs.Lives.{IsLife, Life}
 use Rattle.account_state.specs.Names.{AreNames}
 use Rattle.account_questions.specs.Questions.{answer_to, ConcernsNames, ConcernsNoOther}
 use Rattle.account_questions.specs.declared.question.Question.{Question}

@@ -7,7 +7,7 @@ use Rattle.account_machine.specs.Machine.{Answer, answered, stays_unopened}
 use Rattle.account_machine.specs.Verdicts.{line_refused, short_refused}
 use Rattle.account_machine.specs.declared.event.Reply.{Reply}
 use Rattle.account_machine.specs.declared.event.Reply.TheVariants as reply
-use Rattle.account_laws.specs.Lives.{Exchange, IsLife, LeadsTo, Life, LivesGoOn, LivesLeaveOne}
+use Rattle.account_lives.specs.Lives.{Exchange, IsLife, LeadsTo, Life, LivesGoOn, LivesLeaveOne}
 use Rattle.account_rules.specs.Devices.{Devices}
 use Rattle.account_rules.specs.declared.refusal.Word.TheVariants.{NoAccount}
 use Rattle.account_state.specs.Rooms.{RoomValue}

@@ -1,0 +1,127 @@
+-- A page is the same where the passwords of its jobs are hidden.
+use Rattle.std.proofs.Common.{◌≡◌, ℕ, Bool, cond, not, ◌&&◌, ◌==◌, List, [], ◌++◌, map, refl, ap}
+use Rattle.account_laws.proofs.HiddenPasswords.{hidden, still_secret}
+use Rattle.account_laws.proofs.ToldLists.{length_changed, told_changed}
+use Rattle.account_rules.specs.Effects.{is_incomplete}
+use Rattle.account_rules.specs.declared.job.Job.{Job}
+use Rattle.page_markup.specs.Parts.{html}
+use Rattle.page_pages.specs.Devices.{devices_on}
+use Rattle.page_pages.specs.Ended.{device_or_none, ended_card, ended_counts, ended_job, ended_name, table_of_ended}
+use Rattle.page_pages.specs.Forms.{print_form}
+use Rattle.page_pages.specs.Owners.{content, lists, owner_document, owner_end, owner_page, owner_start, reload_if}
+use Rattle.page_pages.specs.Phases.{phase_in, phase_of, printing_phase, sentence, sign, word}
+use Rattle.page_pages.specs.Statements.{job_if_then, is_then, statement_count, statement_jobs, statement_page, statement_start}
+use Rattle.page_pages.specs.Waiting.{device_words, job_acts, job_counts, job_name, job_row, job_state, table_of_waiting, waiting_card}
+use Rattle.page_pages.specs.declared.owner.Owner.{Owner}
+use Rattle.page_pages.specs.declared.phase.Phase.{Phase}
+use Rattle.page_pages.specs.declared.phase.Phase.TheVariants.{Incomplete, Locked, Uncounted, Ready}
+use Rattle.page_pages.specs.declared.statement.Statement.{Statement}
+
+-- ---- a job
+
+phase_hidden : (job : Job) → phase_of (hidden job) ≡ phase_of job
+phase_hidden job =
+    ap
+    (λ (locked : Bool). phase_in job.standing.state (cond (is_incomplete job.standing) Incomplete (cond locked Locked (cond (job.standing.impressions == 0) Uncounted Ready))) (printing_phase job.standing.stopping))
+    (still_secret job.password)
+
+row_hidden : (account : List ℕ) (job : Job) → job_row account (hidden job) ≡ job_row account job
+unfolding job_row
+row_hidden account job =
+    ap
+    (λ (phase : Phase).
+    html (job_name job.job job.name)
+    ++ (html (job_state (sign phase) (word phase) (sentence phase))
+    ++ (html (job_counts (device_words phase job.standing.device) job.standing.impressions job.standing.copies job.standing.documents job.standing.created)
+    ++ job_acts account phase job.job)))
+    (phase_hidden job)
+
+ended_hidden : (job : Job) → ended_job (hidden job) ≡ ended_job job
+unfolding ended_job
+ended_hidden job =
+    ap
+    (λ (phase : Phase). html (ended_name job.job job.name (sign phase) (word phase)) ++ html (ended_counts (device_or_none job.standing.device) job.standing.ended job.standing.charged))
+    (phase_hidden job)
+
+-- ---- what differs within a text that stays
+
+within : (before after : List ℕ) (x y : List ℕ) → x ≡ y → before ++ (x ++ after) ≡ before ++ (y ++ after)
+within before after x y same = ap (λ (l : List ℕ). before ++ (l ++ after)) same
+
+in_both : (first others between rows ends after : List ℕ) → first ≡ others → rows ≡ ends → first ++ (between ++ (rows ++ after)) ≡ others ++ (between ++ (ends ++ after))
+in_both first others between rows ends after start same = λ i. start i ++ (between ++ (same i ++ after))
+
+-- a table of so many rows, or what stands for none
+of_rows : (none columns foot rows others : List ℕ) (n m : ℕ) → n ≡ m → rows ≡ others → cond (n == 0) none (columns ++ (rows ++ foot)) ≡ cond (m == 0) none (columns ++ (others ++ foot))
+of_rows none columns foot rows others n m so_many same = λ i. cond (so_many i == 0) none (columns ++ (same i ++ foot))
+
+-- ---- a table
+
+waiting_table : (account : List ℕ) (jobs : List Job) → table_of_waiting account (map hidden jobs) ≡ table_of_waiting account jobs
+waiting_table account jobs = of_rows _ _ _ _ _ _ _ (length_changed hidden jobs) (told_changed hidden (job_row account) (job_row account) (row_hidden account) jobs)
+
+waiting_hidden : (account : List ℕ) (jobs : List Job) → waiting_card account (map hidden jobs) ≡ waiting_card account jobs
+unfolding waiting_card
+waiting_hidden account jobs = within _ _ _ _ (waiting_table account jobs)
+
+ended_table : (jobs : List Job) → table_of_ended (map hidden jobs) ≡ table_of_ended jobs
+ended_table jobs = of_rows _ _ _ _ _ _ _ (length_changed hidden jobs) (told_changed hidden ended_job ended_job ended_hidden jobs)
+
+ended_card_hidden : (jobs : List Job) → ended_card (map hidden jobs) ≡ ended_card jobs
+unfolding ended_card
+ended_card_hidden jobs = within _ _ _ _ (ended_table jobs)
+
+-- ---- the page of an owner
+
+-- with these jobs on it
+abbrev owner_with : Owner → (waiting ended : List Job) → Owner
+owner_with owner waiting ended = record owner { waiting = waiting; ended = ended }
+
+-- it loads itself anew, or stays, by how many jobs wait
+reloads_alike : (before account after : List ℕ) (stays : Bool) (n m : ℕ) → n ≡ m → (before ++ reload_if (not stays && not (n == 0)) account) ++ after ≡ (before ++ reload_if (not stays && not (m == 0)) account) ++ after
+reloads_alike before account after stays n m so_many = ap (λ (n : ℕ). (before ++ reload_if (not stays && not (n == 0)) account) ++ after) so_many
+
+module _ (owner : Owner) (waiting ended : List Job) where
+  start_hidden : owner_start (owner_with owner (map hidden waiting) (map hidden ended)) ≡ owner_start (owner_with owner waiting ended)
+  unfolding owner_start owner_document
+  start_hidden = reloads_alike _ owner.account _ owner.stays _ _ (length_changed hidden waiting)
+
+  content_hidden : content (owner_with owner (map hidden waiting) (map hidden ended)) ≡ content (owner_with owner waiting ended)
+  unfolding content
+  content_hidden = refl
+
+  lists_hidden : lists (owner_with owner (map hidden waiting) (map hidden ended)) ≡ lists (owner_with owner waiting ended)
+  unfolding lists
+  lists_hidden =
+      let first = waiting_hidden owner.account waiting in
+      let last = ended_card_hidden ended in
+      λ i. first i ++ (print_form owner.account owner.needs_password ++ (devices_on owner.devices ++ last i))
+
+  end_hidden : owner_end (owner_with owner (map hidden waiting) (map hidden ended)) ≡ owner_end (owner_with owner waiting ended)
+  unfolding owner_end
+  end_hidden = refl
+
+  pub owner_hidden : owner_page (owner_with owner (map hidden waiting) (map hidden ended)) ≡ owner_page (owner_with owner waiting ended)
+  unfolding owner_page
+  owner_hidden = λ i. start_hidden i ++ (content_hidden i ++ (lists_hidden i ++ end_hidden i))
+
+-- ---- a statement for paper
+
+then_hidden : (month : ℕ) (job : Job) → job_if_then month (hidden job) ≡ job_if_then month job
+then_hidden month job = ap (λ (row : List ℕ). cond (is_then month job.standing.ended) row []) (ended_hidden job)
+
+module _ (statement : Statement) (ended : List Job) where
+  abbrev statement_of : List Job → Statement
+  statement_of jobs = record statement { ended = jobs }
+
+  statement_start_hidden : statement_start (statement_of (map hidden ended)) ≡ statement_start (statement_of ended)
+  unfolding statement_start
+  statement_start_hidden = refl
+
+  statement_jobs_hidden : statement_jobs (statement_of (map hidden ended)) ≡ statement_jobs (statement_of ended)
+  unfolding statement_jobs
+  statement_jobs_hidden = ap (λ (rest : List ℕ). html (statement_count statement.ended_then) ++ rest) (within _ _ _ _ (told_changed hidden (job_if_then statement.month) (job_if_then statement.month) (then_hidden statement.month) ended))
+
+  pub statement_hidden : statement_page (statement_of (map hidden ended)) ≡ statement_page (statement_of ended)
+  unfolding statement_page
+  statement_hidden = in_both _ _ _ _ _ _ statement_start_hidden statement_jobs_hidden
