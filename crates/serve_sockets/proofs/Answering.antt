@@ -3,6 +3,7 @@ use Rattle.std.proofs.Common.{◌≡◌, ◌≢◌, ◌≤◌, ◌<◌, ◌&&◌
 use Rattle.std.specs.List.{Contains}
 use Rattle.std.specs.Result.{IsOkAnd}
 use Rattle.std.proofs.Math.Seq.{get_or-append_seam, take-length}
+use Rattle.std.proofs.lemmas.Bool.{true≢false}
 use Rattle.std.proofs.lemmas.Grind.{flat_map-append}
 use Rattle.std.proofs.lemmas.List.{get_or_append_left, take-append-le}
 use Rattle.std.proofs.lemmas.Option.{get_or_from_slice_get, slice_get-get_or, slice_get_within}
@@ -21,14 +22,14 @@ use Rattle.serve_peers.proofs.Journaling.{applied_then, background_only, line_ch
 use Rattle.serve_peers.specs.Answers.{Answers, Gives}
 use Rattle.serve_peers.specs.HttpPeers as http
 use Rattle.serve_peers.specs.HttpPeers.{calls_of, connection_of}
-use Rattle.serve_peers.specs.Journals.{Notes, Told, applied, journal_of, log_lags_of, moment_of, needs_password_of, shares_of, store_of}
+use Rattle.serve_peers.specs.Journals.{Notes, Told, applied, journal_of, kept_in, log_lags_of, moment_of, needs_password_of, open_of, shares_of, store_of}
 use Rattle.serve_peers.specs.Turns.{Continues}
 use Rattle.serve_peers.specs.LastPeers.{SaysLast, left_of}
 use Rattle.serve_peers.specs.LinePeers as lines
 use Rattle.serve_peers.specs.LinePeers.{LineCall, TakesLines, bytes_told, lines_of, taken}
 use Rattle.serve_peers.specs.LineTexts.{has_to_warn}
 use Rattle.serve_peers.specs.Keeping.{backup_of}
-use Rattle.serve_peers.specs.Lines.{Asks, BacksUp, Inquires, IsRefused, IsTold, input_of, output_of, sent_of, side_of}
+use Rattle.serve_peers.specs.Lines.{Asks, BacksUp, Inquires, IsRefused, IsTold, input_of, output_of, received_of, sent_of, side_of}
 use Rattle.serve_peers.specs.Requests.{asked}
 use Rattle.serve_peers.specs.Streams.{Ends}
 use Rattle.serve_peers.specs.declared.entry.Entry.TheVariants as entry
@@ -50,9 +51,9 @@ use Rattle.serve_sockets.proofs.Inquiring.{answered_so, grown_alone}
 use Rattle.serve_sockets.specs.Places.{StandAt}
 use Rattle.serve_sockets.specs.Requests.{AnswersCall, AnswersCalls}
 use Rattle.serve_sockets.specs.Questions.{AnswersBy}
-use Rattle.serve_sockets.specs.Lines.{AnswersLineCalls, HasAnsweredLines, TellsAnswer}
-use Rattle.serve_sockets.specs.Pages.{AnswersPageCalls, TellsAct, TellsPage}
-use Rattle.serve_sockets.specs.EndToEnd.{IsAnswered, IsFresh}
+use Rattle.serve_sockets.specs.Lines.{AnswersLineCalls, AnswersLinesNow, TellsLinesNow, HasAnsweredLines, TellsAnswer}
+use Rattle.serve_sockets.specs.Pages.{AnswersPageCalls, AnswersPagesNow, TellsPagesNow, TellsAct, TellsPage}
+use Rattle.serve_sockets.specs.EndToEnd.{IsAnswered, IsFresh, TellsNow, WasAnswered, log_of}
 use Rattle.serve_sockets.specs.Guests.{TakesTurn}
 use Rattle.serve_sockets.specs.declared.guest.Peer.{Peer}
 use Rattle.serve_sockets.specs.declared.guest.Peer.TheVariants.{Http, Last, Lines, Pages}
@@ -211,6 +212,19 @@ module _ {S : Type 0} (store : Ghosts S) (first last : Held S) where
   pages_within (call ∷ calls) least places journal (inr (inl (n, low, within, tells, later))) place there = pages_within calls n places journal later place there
   pages_within (call ∷ calls) least places journal (inr (inr (still, later))) place there = pages_within calls least places journal later place there
 
+  -- what was told in one turn
+  lines_loose : (shares : Bool) (side : Side) (calls : List LineCall) (least : ℕ) (places : List ℕ) (journal : List Told) → AnswersLinesNow store first last shares side calls least places journal → AnswersLineCalls store first last side calls least places journal
+  lines_loose shares side [] least places journal is = is
+  lines_loose shares side (call ∷ calls) least places journal (inl (told, tells, rest, are, stands, later)) = inl (told, tells, least, rest, are, omega arith, stands, lines_loose shares side calls (suc least) rest journal later)
+  lines_loose shares side (call ∷ calls) least places journal (inr (inl (alone, within, tells, later))) = inr (inl (least, omega arith, within, tells, lines_loose shares side calls least places journal later))
+  lines_loose shares side (call ∷ calls) least places journal (inr (inr (bad, later))) = inr (inr (bad, lines_loose shares side calls least places journal later))
+
+  pages_loose : (shares : Bool) (calls : List Call) (least : ℕ) (places : List ℕ) (journal : List Told) → AnswersPagesNow store first last shares calls least places journal → AnswersPageCalls store first last calls least places journal
+  pages_loose shares [] least places journal is = is
+  pages_loose shares (call ∷ calls) least places journal (inl (told, tells, rest, are, stands, later)) = inl (told, tells, least, rest, are, omega arith, stands, pages_loose shares calls (suc least) rest journal later)
+  pages_loose shares (call ∷ calls) least places journal (inr (inl (alone, within, tells, later))) = inr (inl (least, omega arith, within, tells, pages_loose shares calls least places journal later))
+  pages_loose shares (call ∷ calls) least places journal (inr (inr (still, later))) = inr (inr (still, pages_loose shares calls least places journal later))
+
   -- ---- what was told stays told
 
   pub answered_longer : (peer : Peer) (places : List ℕ) (journal more : List Told) → IsAnswered store first last peer places journal → IsAnswered store first last peer places (journal ++ more)
@@ -219,6 +233,18 @@ module _ {S : Type 0} (store : Ghosts S) (first last : Held S) where
   answered_longer (Lines peer) places journal more is = record { calls = is.calls; came = is.came; goes = is.goes; answered = lines_longer (side_of (lines_of peer)) is.calls 0 places journal more is.answered }
   answered_longer (Last peer) places journal more (inl is) = inl (record { told = is.told; stands = stand_longer 0 places (is.told ∷ []) journal more is.stands; went = is.went; text = is.text })
   answered_longer (Last peer) places journal more (inr is) = inr is
+
+  pub was_longer : (peer : Peer) (places : List ℕ) (journal more : List Told) → WasAnswered store first last peer places journal → WasAnswered store first last peer places (journal ++ more)
+  was_longer (Http peer) places journal more is = answered_longer (Http peer) places journal more is
+  was_longer (Pages peer) places journal more is = answered_longer (Pages peer) places journal more is
+  was_longer (Lines peer) places journal more (waits, is) = (waits, record { calls = is.calls; came = is.came; goes = is.goes; answered = lines_longer (side_of (lines_of peer)) is.calls 0 places journal more is.answered })
+  was_longer (Last peer) places journal more is = answered_longer (Last peer) places journal more is
+
+  pub was_answered : (peer : Peer) (places : List ℕ) (journal : List Told) → IsAnswered store first last peer places journal → WasAnswered store first last peer places journal
+  was_answered (Http peer) places journal is = is
+  was_answered (Pages peer) places journal is = is
+  was_answered (Lines peer) places journal is = (output_of (lines_of peer), is)
+  was_answered (Last peer) places journal is = is
 
   pub answered_within : (peer : Peer) (places : List ℕ) (journal : List Told) → IsAnswered store first last peer places journal → (place : ℕ) → Contains places place → place < length journal
   answered_within (Http peer) places journal is = stand_within 0 places is.mine journal is.stand
@@ -255,35 +281,34 @@ module _ {S : Type 0} (store : Ghosts S) (before : Served S) (fresh : IsFresh be
       ap (λ (told : List Told). told ++ applied c.more) (is was) ∙ sym (grown_alone c.more old new (subst (λ b. Notes b c.more old new) was c.notes).0)
 
   -- one line is told, at the end of the journal
-  abbrev LineTold : (side : Side) (call : LineCall) (old new : Served S) → Type 0
-  LineTold side call old new = (c : Continues store old new)
-      × ((journal : List Told) → IsJournal journal old → (calls : List LineCall) (its : List ℕ) (told : List Told) → AnswersLineCalls store (store_of before) last side calls (length (journal ++ applied c.more)) its ((journal ++ applied c.more) ++ told)
-      → AnswersLineCalls store (store_of before) last side (call ∷ calls) (length journal) (places_from (length journal) (applied c.more) ++ its) ((journal ++ applied c.more) ++ told))
+  abbrev LineTold : (shares : Bool) (side : Side) (call : LineCall) (old new : Served S) → Type 0
+  LineTold shares side call old new = (c : Continues store old new)
+      × ((journal : List Told) → IsJournal journal old → (calls : List LineCall) (its : List ℕ) (told : List Told) → AnswersLinesNow store (store_of before) last shares side calls (length (journal ++ applied c.more)) its ((journal ++ applied c.more) ++ told)
+      → AnswersLinesNow store (store_of before) last shares side (call ∷ calls) (length journal) (places_from (length journal) (applied c.more) ++ its) ((journal ++ applied c.more) ++ told))
 
-  asks_told : (side : Side) (call : LineCall) (old new : Served S) → Asks store side call.0 old call.1 new → LineTold side call old new
+  asks_told : (shares : Bool) (side : Side) (call : LineCall) (old new : Served S) → Asks store side call.0 old call.1 new → LineTold shares side call old new
   unfolding one_more
-  asks_told side call old new is = (
+  asks_told shares side call old new is = (
     one_more store is.entry is.told old new is.next,
     λ journal is_journal calls its told later.
         let one : Told = (is.entry, is.told) in
         let long : length (journal ++ one ∷ []) ≡ suc (length journal) = omega (arith, length-append journal (one ∷ [])) in
         let stands : slice_get ((journal ++ one ∷ []) ++ told) (length journal) ≡ Some one = at_longer (journal ++ one ∷ []) told (length journal) one (at_seam journal [] one) in
-        inl (one, record { line = is.line; ended = is.ended; own = is.own; moment = moment_of old; said = is.said; says = is.says }, length journal, its, refl, omega arith, stands, subst (λ (n : ℕ). AnswersLineCalls store (store_of before) last side calls n its ((journal ++ one ∷ []) ++ told)) long later),
+        inl (one, record { line = is.line; ended = is.ended; own = is.own; moment = moment_of old; said = is.said; says = is.says }, its, refl, stands, subst (λ (n : ℕ). AnswersLinesNow store (store_of before) last shares side calls n its ((journal ++ one ∷ []) ++ told)) long later),
   )
 
   -- nothing was applied: the rest stands where it did
-  none_told : (side : Side) (calls : List LineCall) (journal told : List Told) (its : List ℕ) → AnswersLineCalls store (store_of before) last side calls (length (journal ++ [])) its ((journal ++ []) ++ told) → AnswersLineCalls store (store_of before) last side calls (length journal) its ((journal ++ []) ++ told)
-  none_told side calls journal told its later = subst (λ (n : ℕ). AnswersLineCalls store (store_of before) last side calls n its ((journal ++ []) ++ told)) (ap length (append-nil journal)) later
+  none_told : (shares : Bool) (side : Side) (calls : List LineCall) (journal told : List Told) (its : List ℕ) → AnswersLinesNow store (store_of before) last shares side calls (length (journal ++ [])) its ((journal ++ []) ++ told) → AnswersLinesNow store (store_of before) last shares side calls (length journal) its ((journal ++ []) ++ told)
+  none_told shares side calls journal told its later = subst (λ (n : ℕ). AnswersLinesNow store (store_of before) last shares side calls n its ((journal ++ []) ++ told)) (ap length (append-nil journal)) later
 
-  inquires_told : (side : Side) (call : LineCall) (old new : Served S) → IsServed store before old → (HasCleanDisk (state store last) → IsClean store new) → Inquires store side call.0 old call.1 new → LineTold side call old new
+  inquires_told : (shares : Bool) (side : Side) (call : LineCall) (old new : Served S) → IsServed store before old → (HasCleanDisk (state store last) → IsClean store new) → shares_of old ≡ shares → Inquires store side call.0 old call.1 new → LineTold shares side call old new
   unfolding looked
-  inquires_told side call old new served clean is = (
+  inquires_told shares side call old new served clean same is = (
     looked store is.question is.told old new is.next,
     λ journal is_journal calls its told later.
         let so_far : take (length journal) ((journal ++ []) ++ told) ≡ journal_of old = take_within (journal ++ []) told (length journal) (omega (arith, ap length (append-nil journal))) ∙ ap (λ x. take (length journal) x) (append-nil journal) ∙ take-length journal ∙ is_journal is.next.alone in
         inr (inl (
-          length journal,
-          omega arith,
+          sym same ∙ is.next.alone,
           omega (arith, length-append (journal ++ []) told, ap length (append-nil journal)),
           record {
             line = is.line;
@@ -298,38 +323,38 @@ module _ {S : Type 0} (store : Ghosts S) (before : Served S) (fresh : IsFresh be
             says = is.says;
             answers = subst (λ (log : List Told). AnswersBy store (store_of before) last log is.question is.told) (sym so_far) (answered_so store before fresh last is.question is.told old new served clean is.next);
           },
-          none_told side calls journal told its later,
+          none_told shares side calls journal told its later,
         )),
   )
 
-  bad_told : (side : Side) (call : LineCall) (old new : Served S) → IsRefused store side call.0 old call.1 new → LineTold side call old new
+  bad_told : (shares : Bool) (side : Side) (call : LineCall) (old new : Served S) → IsRefused store side call.0 old call.1 new → LineTold shares side call old new
   unfolding stays
-  bad_told side call old new bad = subst (λ (served : Served S). LineTold side call old served) (sym bad.1) (stays store old, λ journal is_journal calls its told later. inr (inr (inr bad.0, none_told side calls journal told its later)))
+  bad_told shares side call old new bad = subst (λ (served : Served S). LineTold shares side call old served) (sym bad.1) (stays store old, λ journal is_journal calls its told later. inr (inr (inr bad.0, none_told shares side calls journal told its later)))
 
-  backup_told : (side : Side) (call : LineCall) (old new : Served S) → BacksUp store side call.0 old call.1 new → LineTold side call old new
+  backup_told : (shares : Bool) (side : Side) (call : LineCall) (old new : Served S) → BacksUp store side call.0 old call.1 new → LineTold shares side call old new
   unfolding background_only
-  backup_told side call old new is = subst (λ (served : Served S). LineTold side call old served) (sym is.next.same) (
+  backup_told shares side call old new is = subst (λ (served : Served S). LineTold shares side call old served) (sym is.next.same) (
     background_only store old (record old.background { backup = backup_of new }),
-    λ journal is_journal calls its told later. inr (inr (inl (record { line = is.line; ended = is.ended; operator = is.operator; asked = is.asked; said = is.said; told = is.told; says = is.says }), none_told side calls journal told its later)),
+    λ journal is_journal calls its told later. inr (inr (inl (record { line = is.line; ended = is.ended; operator = is.operator; asked = is.asked; said = is.said; told = is.told; says = is.says }), none_told shares side calls journal told its later)),
   )
 
-  line_told : (side : Side) (call : LineCall) (old new : Served S) → IsServed store before old → (HasCleanDisk (state store last) → IsClean store new) → IsTold store side call.0 old call.1 new → LineTold side call old new
-  line_told side call old new served clean (inl asks) = asks_told side call old new asks
-  line_told side call old new served clean (inr (inl inquires)) = inquires_told side call old new served clean inquires
-  line_told side call old new served clean (inr (inr (inl backs))) = backup_told side call old new backs
-  line_told side call old new served clean (inr (inr (inr bad))) = bad_told side call old new bad
+  line_told : (shares : Bool) (side : Side) (call : LineCall) (old new : Served S) → IsServed store before old → (HasCleanDisk (state store last) → IsClean store new) → shares_of old ≡ shares → IsTold store side call.0 old call.1 new → LineTold shares side call old new
+  line_told shares side call old new served clean same (inl asks) = asks_told shares side call old new asks
+  line_told shares side call old new served clean same (inr (inl inquires)) = inquires_told shares side call old new served clean same inquires
+  line_told shares side call old new served clean same (inr (inr (inl backs))) = backup_told shares side call old new backs
+  line_told shares side call old new served clean same (inr (inr (inr bad))) = bad_told shares side call old new bad
 
-  abbrev LinesTold : (side : Side) (calls : List LineCall) (old new : Served S) → Type 0
-  LinesTold side calls old new = (c : Continues store old new)
-      × ((journal : List Told) → IsJournal journal old → AnswersLineCalls store (store_of before) last side calls (length journal) (places_from (length journal) (applied c.more)) (journal ++ applied c.more))
+  abbrev LinesTold : (shares : Bool) (side : Side) (calls : List LineCall) (old new : Served S) → Type 0
+  LinesTold shares side calls old new = (c : Continues store old new)
+      × ((journal : List Told) → IsJournal journal old → AnswersLinesNow store (store_of before) last shares side calls (length journal) (places_from (length journal) (applied c.more)) (journal ++ applied c.more))
 
-  pub lines_told : (side : Side) (calls : List LineCall) (old new : Served S) → IsServed store before old → (HasCleanDisk (state store last) → IsClean store new) → lines.Chain store side old calls new → LinesTold side calls old new
+  pub lines_told : (shares : Bool) (side : Side) (calls : List LineCall) (old new : Served S) → IsServed store before old → (HasCleanDisk (state store last) → IsClean store new) → shares_of old ≡ shares → lines.Chain store side old calls new → LinesTold shares side calls old new
   unfolding stays then
-  lines_told side [] old new served clean is = subst (λ (it : Served S). LinesTold side [] old it) (sym is) (stays store old, λ journal is_journal. refl)
-  lines_told side (call ∷ calls) old new served clean is =
+  lines_told shares side [] old new served clean same is = subst (λ (it : Served S). LinesTold shares side [] old it) (sym is) (stays store old, λ journal is_journal. refl)
+  lines_told shares side (call ∷ calls) old new served clean same is =
       let rest_on : Continues store is.0 new = line_chain store side calls is.0 new is.2 in
-      let first = line_told side call old is.0 served (λ honest. continues_clean store is.0 new rest_on (clean honest)) is.1 in
-      let rest = lines_told side calls is.0 new (served_continues store before old is.0 served first.0) clean is.2 in (
+      let first = line_told shares side call old is.0 served (λ honest. continues_clean store is.0 new rest_on (clean honest)) same is.1 in
+      let rest = lines_told shares side calls is.0 new (served_continues store before old is.0 served first.0) clean (first.0.shares ∙ same) is.2 in (
         then store old is.0 new first.0 rest.0,
         λ journal is_journal.
             let mid : List Told = journal ++ applied first.0.more in
@@ -338,24 +363,24 @@ module _ {S : Type 0} (store : Ghosts S) (before : Served S) (fresh : IsFresh be
             let log : mid ++ applied rest.0.more ≡ journal ++ applied (first.0.more ++ rest.0.more) = append_assoc journal (applied first.0.more) (applied rest.0.more) ∙ ap (λ x. journal ++ x) (sym (applied_then first.0.more rest.0.more)) in
             let at : places_from (length journal) (applied first.0.more) ++ places_from (length mid) (applied rest.0.more) ≡ places_from (length journal) (applied (first.0.more ++ rest.0.more)) =
             places_then journal (applied first.0.more) (applied rest.0.more) ∙ ap (λ (told : List Told). places_from (length journal) told) (sym (applied_then first.0.more rest.0.more)) in
-            subst (λ (at : List ℕ). AnswersLineCalls store (store_of before) last side (call ∷ calls) (length journal) at (journal ++ applied (first.0.more ++ rest.0.more))) at (subst (λ (told : List Told). AnswersLineCalls store (store_of before) last side (call ∷ calls) (length journal) (places_from (length journal) (applied first.0.more) ++ places_from (length mid) (applied rest.0.more)) told) log all),
+            subst (λ (at : List ℕ). AnswersLinesNow store (store_of before) last shares side (call ∷ calls) (length journal) at (journal ++ applied (first.0.more ++ rest.0.more))) at (subst (λ (told : List Told). AnswersLinesNow store (store_of before) last shares side (call ∷ calls) (length journal) (places_from (length journal) (applied first.0.more) ++ places_from (length mid) (applied rest.0.more)) told) log all),
       )
 
   -- ---- a browser
 
   -- one request is told, at the end of the journal
-  abbrev PageTold : (call : Call) (old new : Served S) → Type 0
-  PageTold call old new = (c : Continues store old new)
-      × ((journal : List Told) → IsJournal journal old → (calls : List Call) (its : List ℕ) (told : List Told) → AnswersPageCalls store (store_of before) last calls (length (journal ++ applied c.more)) its ((journal ++ applied c.more) ++ told)
-      → AnswersPageCalls store (store_of before) last (call ∷ calls) (length journal) (places_from (length journal) (applied c.more) ++ its) ((journal ++ applied c.more) ++ told))
+  abbrev PageTold : (shares : Bool) (call : Call) (old new : Served S) → Type 0
+  PageTold shares call old new = (c : Continues store old new)
+      × ((journal : List Told) → IsJournal journal old → (calls : List Call) (its : List ℕ) (told : List Told) → AnswersPagesNow store (store_of before) last shares calls (length (journal ++ applied c.more)) its ((journal ++ applied c.more) ++ told)
+      → AnswersPagesNow store (store_of before) last shares (call ∷ calls) (length journal) (places_from (length journal) (applied c.more) ++ its) ((journal ++ applied c.more) ++ told))
 
   -- nothing was applied: the rest stands where it did
-  none_shown : (calls : List Call) (journal told : List Told) (its : List ℕ) → AnswersPageCalls store (store_of before) last calls (length (journal ++ [])) its ((journal ++ []) ++ told) → AnswersPageCalls store (store_of before) last calls (length journal) its ((journal ++ []) ++ told)
-  none_shown calls journal told its later = subst (λ (n : ℕ). AnswersPageCalls store (store_of before) last calls n its ((journal ++ []) ++ told)) (ap length (append-nil journal)) later
+  none_shown : (shares : Bool) (calls : List Call) (journal told : List Told) (its : List ℕ) → AnswersPagesNow store (store_of before) last shares calls (length (journal ++ [])) its ((journal ++ []) ++ told) → AnswersPagesNow store (store_of before) last shares calls (length journal) its ((journal ++ []) ++ told)
+  none_shown shares calls journal told its later = subst (λ (n : ℕ). AnswersPagesNow store (store_of before) last shares calls n its ((journal ++ []) ++ told)) (ap length (append-nil journal)) later
 
-  act_told : (call : Call) (old new : Served S) → IsApplied store (asks_of call.0) old call.0 call.1 new → PageTold call old new
+  act_told : (shares : Bool) (call : Call) (old new : Served S) → IsApplied store (asks_of call.0) old call.0 call.1 new → PageTold shares call old new
   unfolding one_more
-  act_told call old new is = (
+  act_told shares call old new is = (
     one_more store (entry.Message (moment_of old) is.account is.message) is.applies.told old new is.applies.next,
     λ journal is_journal calls its told later.
         let one : Told = (entry.Message (moment_of old) is.account is.message, is.applies.told) in
@@ -371,18 +396,17 @@ module _ {S : Type 0} (store : Ghosts S) (before : Served S) (fresh : IsFresh be
           asked = refl;
           tells = is.applies.tells;
         } in
-        inl (one, tells, length journal, its, refl, omega arith, stands, subst (λ (n : ℕ). AnswersPageCalls store (store_of before) last calls n its ((journal ++ one ∷ []) ++ told)) long later),
+        inl (one, tells, its, refl, stands, subst (λ (n : ℕ). AnswersPagesNow store (store_of before) last shares calls n its ((journal ++ one ∷ []) ++ told)) long later),
   )
 
-  shown_told : (call : Call) (old new : Served S) → IsServed store before old → (HasCleanDisk (state store last) → IsClean store new) → IsLookedAt store (asks_of call.0) old call.0 call.1 new → PageTold call old new
+  shown_told : (shares : Bool) (call : Call) (old new : Served S) → IsServed store before old → (HasCleanDisk (state store last) → IsClean store new) → shares_of old ≡ shares → IsLookedAt store (asks_of call.0) old call.0 call.1 new → PageTold shares call old new
   unfolding looked
-  shown_told call old new served clean is = (
+  shown_told shares call old new served clean same is = (
     looked store (question_of (needs_password_of old) (moment_of old) is.asks) is.shows.told old new is.shows.next,
     λ journal is_journal calls its told later.
         let so_far : take (length journal) ((journal ++ []) ++ told) ≡ journal_of old = take_within (journal ++ []) told (length journal) (omega (arith, ap length (append-nil journal))) ∙ ap (λ x. take (length journal) x) (append-nil journal) ∙ take-length journal ∙ is_journal is.shows.next.alone in
         inr (inl (
-          length journal,
-          omega arith,
+          sym same ∙ is.shows.next.alone,
           omega (arith, length-append (journal ++ []) told, ap length (append-nil journal)),
           record {
             needs_password = needs_password_of old;
@@ -393,29 +417,29 @@ module _ {S : Type 0} (store : Ghosts S) (before : Served S) (fresh : IsFresh be
             shows = is.shows.tells;
             answers = subst (λ (log : List Told). AnswersBy store (store_of before) last log (question_of (needs_password_of old) (moment_of old) is.asks) is.shows.told) (sym so_far) (answered_so store before fresh last (question_of (needs_password_of old) (moment_of old) is.asks) is.shows.told old new served clean is.shows.next);
           },
-          none_shown calls journal told its later,
+          none_shown shares calls journal told its later,
         )),
   )
 
-  left_told : (call : Call) (old new : Served S) → IsLeft store (asks_of call.0) old call.0 call.1 new → PageTold call old new
-  left_told call old new is = subst (λ (served : Served S). PageTold call old served) (sym is.1.1) (gathered_only store old is.1.0, λ journal is_journal calls its told later. inr (inr (is.0, none_shown calls journal told its later)))
+  left_told : (shares : Bool) (call : Call) (old new : Served S) → IsLeft store (asks_of call.0) old call.0 call.1 new → PageTold shares call old new
+  left_told shares call old new is = subst (λ (served : Served S). PageTold shares call old served) (sym is.1.1) (gathered_only store old is.1.0, λ journal is_journal calls its told later. inr (inr (is.0, none_shown shares calls journal told its later)))
 
-  page_told : (call : Call) (old new : Served S) → IsServed store before old → (HasCleanDisk (state store last) → IsClean store new) → Comes store (asks_of call.0) old call.0 call.1 new → PageTold call old new
-  page_told call old new served clean (inl is) = act_told call old new is
-  page_told call old new served clean (inr (inl is)) = shown_told call old new served clean is
-  page_told call old new served clean (inr (inr is)) = left_told call old new is
+  page_told : (shares : Bool) (call : Call) (old new : Served S) → IsServed store before old → (HasCleanDisk (state store last) → IsClean store new) → shares_of old ≡ shares → Comes store (asks_of call.0) old call.0 call.1 new → PageTold shares call old new
+  page_told shares call old new served clean same (inl is) = act_told shares call old new is
+  page_told shares call old new served clean same (inr (inl is)) = shown_told shares call old new served clean same is
+  page_told shares call old new served clean same (inr (inr is)) = left_told shares call old new is
 
-  abbrev PagesTold : (calls : List Call) (old new : Served S) → Type 0
-  PagesTold calls old new = (c : Continues store old new)
-      × ((journal : List Told) → IsJournal journal old → AnswersPageCalls store (store_of before) last calls (length journal) (places_from (length journal) (applied c.more)) (journal ++ applied c.more))
+  abbrev PagesTold : (shares : Bool) (calls : List Call) (old new : Served S) → Type 0
+  PagesTold shares calls old new = (c : Continues store old new)
+      × ((journal : List Told) → IsJournal journal old → AnswersPagesNow store (store_of before) last shares calls (length journal) (places_from (length journal) (applied c.more)) (journal ++ applied c.more))
 
-  pub pages_told : (calls : List Call) (old new : Served S) → IsServed store before old → (HasCleanDisk (state store last) → IsClean store new) → Chain (web.Answers store) old calls new → PagesTold calls old new
+  pub pages_told : (shares : Bool) (calls : List Call) (old new : Served S) → IsServed store before old → (HasCleanDisk (state store last) → IsClean store new) → shares_of old ≡ shares → Chain (web.Answers store) old calls new → PagesTold shares calls old new
   unfolding stays then
-  pages_told [] old new served clean is = subst (λ (it : Served S). PagesTold [] old it) (sym is) (stays store old, λ journal is_journal. refl)
-  pages_told (call ∷ calls) old new served clean is =
+  pages_told shares [] old new served clean same is = subst (λ (it : Served S). PagesTold shares [] old it) (sym is) (stays store old, λ journal is_journal. refl)
+  pages_told shares (call ∷ calls) old new served clean same is =
       let rest_on : Continues store is.0 new = pages_chain store calls is.0 new is.2 in
-      let first = page_told call old is.0 served (λ honest. continues_clean store is.0 new rest_on (clean honest)) (comes store old call.0 call.1 is.0 is.1) in
-      let rest = pages_told calls is.0 new (served_continues store before old is.0 served first.0) clean is.2 in (
+      let first = page_told shares call old is.0 served (λ honest. continues_clean store is.0 new rest_on (clean honest)) same (comes store old call.0 call.1 is.0 is.1) in
+      let rest = pages_told shares calls is.0 new (served_continues store before old is.0 served first.0) clean (first.0.shares ∙ same) is.2 in (
         then store old is.0 new first.0 rest.0,
         λ journal is_journal.
             let mid : List Told = journal ++ applied first.0.more in
@@ -424,45 +448,52 @@ module _ {S : Type 0} (store : Ghosts S) (before : Served S) (fresh : IsFresh be
             let log : mid ++ applied rest.0.more ≡ journal ++ applied (first.0.more ++ rest.0.more) = append_assoc journal (applied first.0.more) (applied rest.0.more) ∙ ap (λ x. journal ++ x) (sym (applied_then first.0.more rest.0.more)) in
             let at : places_from (length journal) (applied first.0.more) ++ places_from (length mid) (applied rest.0.more) ≡ places_from (length journal) (applied (first.0.more ++ rest.0.more)) =
             places_then journal (applied first.0.more) (applied rest.0.more) ∙ ap (λ (told : List Told). places_from (length journal) told) (sym (applied_then first.0.more rest.0.more)) in
-            subst (λ (at : List ℕ). AnswersPageCalls store (store_of before) last (call ∷ calls) (length journal) at (journal ++ applied (first.0.more ++ rest.0.more))) at (subst (λ (told : List Told). AnswersPageCalls store (store_of before) last (call ∷ calls) (length journal) (places_from (length journal) (applied first.0.more) ++ places_from (length mid) (applied rest.0.more)) told) log all),
+            subst (λ (at : List ℕ). AnswersPagesNow store (store_of before) last shares (call ∷ calls) (length journal) at (journal ++ applied (first.0.more ++ rest.0.more))) at (subst (λ (told : List Told). AnswersPagesNow store (store_of before) last shares (call ∷ calls) (length journal) (places_from (length journal) (applied first.0.more) ++ places_from (length mid) (applied rest.0.more)) told) log all),
       )
 
   -- ---- a turn
 
-  -- who was answered is, with what this turn applies
-  abbrev pub Answered : (was now : Peer) (old new : Served S) → Type 0
-  Answered was now old new = (c : Continues store old new)
-      × ((places : List ℕ) (journal : List Told) → IsJournal journal old → IsAnswered store (store_of before) last was places journal → IsAnswered store (store_of before) last now (places ++ places_from (length journal) (applied c.more)) (journal ++ applied c.more))
+  -- Who was answered is, with what this turn applies; but what waits to go may be lost where that ends
+  -- the connection.
+  abbrev pub Answered : (next : Next) (was now : Peer) (old new : Served S) → Type 0
+  Answered next was now old new = (c : Continues store old new)
+      × ((places : List ℕ) (journal : List Told) → IsJournal journal old → IsAnswered store (store_of before) last was places journal
+      → (next ≢ Close → IsAnswered store (store_of before) last now (places ++ places_from (length journal) (applied c.more)) (journal ++ applied c.more))
+      × WasAnswered store (store_of before) last now (places ++ places_from (length journal) (applied c.more)) (journal ++ applied c.more))
 
-  http_answered : (was now : HttpPeer) (old new : Served S) → http.MakesCalls store was now old new → Answered (Http was) (Http now) old new
-  http_answered was now old new is =
+  http_answered : (next : Next) (was now : HttpPeer) (old new : Served S) → http.MakesCalls store was now old new → Answered next (Http was) (Http now) old new
+  http_answered next was now old new is =
       let told = calls_told is.0 old new is.2 in
       let more : List Told = applied told.0.more in (
         told.0,
-        λ places journal is_journal had. record {
-          served = always_served (connection_of now);
-          mine = had.mine ++ more;
-          answered = subst (λ (calls : List Call). AnswersCalls calls (had.mine ++ more)) (sym is.1) (calls_then (calls_of was) is.0 had.mine more had.answered told.1);
-          stand = stand_then 0 places had.mine journal more (omega arith) had.stand;
-        },
+        λ places journal is_journal had.
+            let now_has : IsAnswered store (store_of before) last (Http now) (places ++ places_from (length journal) more) (journal ++ more) = record {
+              served = always_served (connection_of now);
+              mine = had.mine ++ more;
+              answered = subst (λ (calls : List Call). AnswersCalls calls (had.mine ++ more)) (sym is.1) (calls_then (calls_of was) is.0 had.mine more had.answered told.1);
+              stand = stand_then 0 places had.mine journal more (omega arith) had.stand;
+            } in
+            ((λ goes. now_has), now_has),
       )
 
-  pages_answered : (was now : HttpPeer) (old new : Served S) → IsServed store before old → (HasCleanDisk (state store last) → IsClean store new) → http.CallsService (web.Answers store) was now old new → Answered (Pages was) (Pages now) old new
-  pages_answered was now old new served clean is =
-      let told = pages_told is.0 old new served clean is.2 in
+  pages_answered : (next : Next) (was now : HttpPeer) (old new : Served S) → IsServed store before old → (HasCleanDisk (state store last) → IsClean store new) → http.CallsService (web.Answers store) was now old new → Answered next (Pages was) (Pages now) old new
+  pages_answered next was now old new served clean is =
+      let told = pages_told (shares_of old) is.0 old new served clean refl is.2 in
       let more : List Told = applied told.0.more in (
         told.0,
-        λ places journal is_journal had. record {
-          served = always_served (connection_of now);
-          answered = subst (λ (calls : List Call). AnswersPageCalls store (store_of before) last calls 0 (places ++ places_from (length journal) more) (journal ++ more)) (sym is.1)
-              (pages_then store (store_of before) last (calls_of was) is.0 0 places (places_from (length journal) more) journal more (omega arith) had.answered (told.1 journal is_journal));
-        },
+        λ places journal is_journal had.
+            let now_has : IsAnswered store (store_of before) last (Pages now) (places ++ places_from (length journal) more) (journal ++ more) = record {
+              served = always_served (connection_of now);
+              answered = subst (λ (calls : List Call). AnswersPageCalls store (store_of before) last calls 0 (places ++ places_from (length journal) more) (journal ++ more)) (sym is.1)
+                  (pages_then store (store_of before) last (calls_of was) is.0 0 places (places_from (length journal) more) journal more (omega arith) had.answered (pages_loose store (store_of before) last (shares_of old) is.0 (length journal) (places_from (length journal) more) (journal ++ more) (told.1 journal is_journal)));
+            } in
+            ((λ goes. now_has), now_has),
       )
 
-  lines_answered : (ends ends2 : Ends) (was now : LineConnection) (old new : Served S) → IsServed store before old → (HasCleanDisk (state store last) → IsClean store new) → TakesLines store ends ends2 was now (output_of now) old new
-      → (c : Continues store old new) × ((places : List ℕ) (journal : List Told) → IsJournal journal old → HasAnsweredLines store (store_of before) last was places journal → HasAnsweredLines store (store_of before) last now (places ++ places_from (length journal) (applied c.more)) (journal ++ applied c.more))
-  lines_answered ends ends2 was now old new served clean is =
-      let told = lines_told (side_of was) is.calls old new served clean is.chain in
+  lines_answered : (ends ends2 : Ends) (was now : LineConnection) (waits : List ℕ) (old new : Served S) → IsServed store before old → (HasCleanDisk (state store last) → IsClean store new) → TakesLines store ends ends2 was now waits old new
+      → (c : Continues store old new) × ((places : List ℕ) (journal : List Told) → IsJournal journal old → HasAnsweredLines store (store_of before) last was (output_of was) places journal → HasAnsweredLines store (store_of before) last now waits (places ++ places_from (length journal) (applied c.more)) (journal ++ applied c.more))
+  lines_answered ends ends2 was now waits old new served clean is =
+      let told = lines_told (shares_of old) (side_of was) is.calls old new served clean refl is.chain in
       let more : List Told = applied told.0.more in (
         told.0,
         λ places journal is_journal had. record {
@@ -472,9 +503,9 @@ module _ {S : Type 0} (store : Ghosts S) (before : Served S) (fresh : IsFresh be
               ∙ sym (append_assoc (taken had.calls) (taken is.calls) (input_of now)) ∙ ap (λ x. x ++ input_of now) (sym (flat_map-append (λ (call : LineCall). call.0) had.calls is.calls));
           goes =
               flat_map-append (λ (call : LineCall). call.1) had.calls is.calls ∙ ap (λ x. x ++ bytes_told is.calls) had.goes ∙ append_assoc (sent_of was) (output_of was) (bytes_told is.calls)
-              ∙ ap (λ x. sent_of was ++ x) is.output ∙ sym (append_assoc (sent_of was) is.went (output_of now)) ∙ ap (λ x. x ++ output_of now) (sym is.sent);
+              ∙ ap (λ x. sent_of was ++ x) is.output ∙ sym (append_assoc (sent_of was) is.went waits) ∙ ap (λ x. x ++ waits) (sym is.sent);
           answered = subst (λ (side : Side). AnswersLineCalls store (store_of before) last side (had.calls ++ is.calls) 0 (places ++ places_from (length journal) more) (journal ++ more)) (sym is.side)
-              (lines_then store (store_of before) last (side_of was) had.calls is.calls 0 places (places_from (length journal) more) journal more (omega arith) had.answered (told.1 journal is_journal));
+              (lines_then store (store_of before) last (side_of was) had.calls is.calls 0 places (places_from (length journal) more) journal more (omega arith) had.answered (lines_loose store (store_of before) last (shares_of old) (side_of was) is.calls (length journal) (places_from (length journal) more) (journal ++ more) (told.1 journal is_journal)));
         },
       )
 
@@ -482,50 +513,126 @@ module _ {S : Type 0} (store : Ghosts S) (before : Served S) (fresh : IsFresh be
   none_applied : (peer : Peer) (places : List ℕ) (journal : List Told) → IsAnswered store (store_of before) last peer places journal → IsAnswered store (store_of before) last peer (places ++ []) (journal ++ [])
   none_applied peer places journal is = subst (λ (at : List ℕ). IsAnswered store (store_of before) last peer at (journal ++ [])) (sym (append-nil places)) (subst (λ (told : List Told). IsAnswered store (store_of before) last peer places told) (sym (append-nil journal)) is)
 
-  line_peer_answered : (ends ends2 : Ends) (next : Next) (was now : LinePeer) (old new : Served S) → IsServed store before old → (HasCleanDisk (state store last) → IsClean store new) → next ≢ Close → lines.TakesTurn store ends ends2 next was now old new → Answered (Lines was) (Lines now) old new
+  line_peer_answered : (ends ends2 : Ends) (next : Next) (was now : LinePeer) (old new : Served S) → IsServed store before old → (HasCleanDisk (state store last) → IsClean store new) → lines.TakesTurn store ends ends2 next was now old new → Answered next (Lines was) (Lines now) old new
   unfolding stays
-  line_peer_answered ends ends2 next was now old new served clean goes (inl drops) =
-      subst (λ (it : Served S). Answered (Lines was) (Lines now) old it) (sym drops.4) (
+  line_peer_answered ends ends2 next was now old new served clean (inl drops) =
+      subst (λ (it : Served S). Answered next (Lines was) (Lines now) old it) (sym drops.4) (
         stays store old,
-        λ places journal is_journal had. subst (λ (connection : LineConnection). HasAnsweredLines store (store_of before) last connection (places ++ []) (journal ++ [])) (sym drops.3) (none_applied (Lines was) places journal had),
+        λ places journal is_journal had.
+            let now_has = subst (λ (connection : LineConnection). HasAnsweredLines store (store_of before) last connection (output_of connection) (places ++ []) (journal ++ [])) (sym drops.3) (none_applied (Lines was) places journal had) in
+            ((λ goes. now_has), (output_of (lines_of now), now_has)),
       )
-  line_peer_answered ends ends2 next was now old new served clean goes (inr takes) =
-      lines_answered ends ends2 (lines_of was) (lines_of now) old new served clean (subst (λ (waits : List ℕ). TakesLines store ends ends2 (lines_of was) (lines_of now) waits old new) (takes.2 goes) takes.1)
-
-  last_answered : (ends ends2 : Ends) (was now : LastPeer) (old new : Served S) → SaysLast ends ends2 was now → new ≡ old → Answered (Last was) (Last now) old new
-  unfolding stays
-  last_answered ends ends2 was now old new says same =
-      subst (λ (it : Served S). Answered (Last was) (Last now) old it) (sym same) (
-        stays store old,
-        λ places journal is_journal had. none_applied (Last now) places journal (elim had [
-          | inl tells ↦ inl (record {
-            told = tells.told;
-            stands = tells.stands;
-            went = tells.went ++ says.went;
-            text = tells.text ∙ ap (λ x. tells.went ++ x) says.left ∙ sym (append_assoc tells.went says.went (left_of now));
-          })
-          | inr off ↦ inr (record {
-            nowhere = off.nowhere;
-            went = off.went ++ says.went;
-            text = off.text ∙ ap (λ x. off.went ++ x) says.left ∙ sym (append_assoc off.went says.went (left_of now));
-          })
-        ]),
+  line_peer_answered ends ends2 next was now old new served clean (inr takes) =
+      let told = lines_answered ends ends2 (lines_of was) (lines_of now) takes.0 old new served clean takes.1 in (
+        told.0,
+        λ places journal is_journal had.
+            let its : List ℕ = places ++ places_from (length journal) (applied told.0.more) in
+            let all : List Told = journal ++ applied told.0.more in
+            let now_has = told.1 places journal is_journal had in
+            ((λ goes. subst (λ (waits : List ℕ). HasAnsweredLines store (store_of before) last (lines_of now) waits its all) (takes.2 goes) now_has), (takes.0, now_has)),
       )
 
-  pub turn_answered : (ends ends2 : Ends) (next : Next) (was now : Peer) (old new : Served S) → IsServed store before old → (HasCleanDisk (state store last) → IsClean store new) → next ≢ Close → TakesTurn store ends ends2 next was now old new → Answered was now old new
-  turn_answered ends ends2 next (Http was) (Http now) old new served clean goes is = http_answered was now old new is.0
-  turn_answered ends ends2 next (Pages was) (Pages now) old new served clean goes is = pages_answered was now old new served clean is.0
-  turn_answered ends ends2 next (Lines was) (Lines now) old new served clean goes is = line_peer_answered ends ends2 next was now old new served clean goes is
-  turn_answered ends ends2 next (Last was) (Last now) old new served clean goes is = last_answered ends ends2 was now old new is.0 is.1
-  turn_answered ends ends2 next (Http was) (Pages now) old new served clean goes is = absurd is
-  turn_answered ends ends2 next (Pages was) (Http now) old new served clean goes is = absurd is
-  turn_answered ends ends2 next (Pages was) (Lines now) old new served clean goes is = absurd is
-  turn_answered ends ends2 next (Pages was) (Last now) old new served clean goes is = absurd is
-  turn_answered ends ends2 next (Lines was) (Pages now) old new served clean goes is = absurd is
-  turn_answered ends ends2 next (Last was) (Pages now) old new served clean goes is = absurd is
-  turn_answered ends ends2 next (Http was) (Lines now) old new served clean goes is = absurd is
-  turn_answered ends ends2 next (Http was) (Last now) old new served clean goes is = absurd is
-  turn_answered ends ends2 next (Lines was) (Http now) old new served clean goes is = absurd is
-  turn_answered ends ends2 next (Lines was) (Last now) old new served clean goes is = absurd is
-  turn_answered ends ends2 next (Last was) (Http now) old new served clean goes is = absurd is
-  turn_answered ends ends2 next (Last was) (Lines now) old new served clean goes is = absurd is
+  last_answered : (ends ends2 : Ends) (next : Next) (was now : LastPeer) (old new : Served S) → SaysLast ends ends2 was now → new ≡ old → Answered next (Last was) (Last now) old new
+  unfolding stays
+  last_answered ends ends2 next was now old new says same =
+      subst (λ (it : Served S). Answered next (Last was) (Last now) old it) (sym same) (
+        stays store old,
+        λ places journal is_journal had.
+            let now_has : IsAnswered store (store_of before) last (Last now) (places ++ []) (journal ++ []) = none_applied (Last now) places journal (elim had [
+              | inl tells ↦ inl (record {
+                told = tells.told;
+                stands = tells.stands;
+                went = tells.went ++ says.went;
+                text = tells.text ∙ ap (λ x. tells.went ++ x) says.left ∙ sym (append_assoc tells.went says.went (left_of now));
+              })
+              | inr off ↦ inr (record {
+                nowhere = off.nowhere;
+                went = off.went ++ says.went;
+                text = off.text ∙ ap (λ x. off.went ++ x) says.left ∙ sym (append_assoc off.went says.went (left_of now));
+              })
+            ]) in
+            ((λ goes. now_has), now_has),
+      )
+
+  pub turn_answered : (ends ends2 : Ends) (next : Next) (was now : Peer) (old new : Served S) → IsServed store before old → (HasCleanDisk (state store last) → IsClean store new) → TakesTurn store ends ends2 next was now old new → Answered next was now old new
+  turn_answered ends ends2 next (Http was) (Http now) old new served clean is = http_answered next was now old new is.0
+  turn_answered ends ends2 next (Pages was) (Pages now) old new served clean is = pages_answered next was now old new served clean is.0
+  turn_answered ends ends2 next (Lines was) (Lines now) old new served clean is = line_peer_answered ends ends2 next was now old new served clean is
+  turn_answered ends ends2 next (Last was) (Last now) old new served clean is = last_answered ends ends2 next was now old new is.0 is.1
+  turn_answered ends ends2 next (Http was) (Pages now) old new served clean is = absurd is
+  turn_answered ends ends2 next (Pages was) (Http now) old new served clean is = absurd is
+  turn_answered ends ends2 next (Pages was) (Lines now) old new served clean is = absurd is
+  turn_answered ends ends2 next (Pages was) (Last now) old new served clean is = absurd is
+  turn_answered ends ends2 next (Lines was) (Pages now) old new served clean is = absurd is
+  turn_answered ends ends2 next (Last was) (Pages now) old new served clean is = absurd is
+  turn_answered ends ends2 next (Http was) (Lines now) old new served clean is = absurd is
+  turn_answered ends ends2 next (Http was) (Last now) old new served clean is = absurd is
+  turn_answered ends ends2 next (Lines was) (Http now) old new served clean is = absurd is
+  turn_answered ends ends2 next (Lines was) (Last now) old new served clean is = absurd is
+  turn_answered ends ends2 next (Last was) (Http now) old new served clean is = absurd is
+  turn_answered ends ends2 next (Last was) (Lines now) old new served clean is = absurd is
+
+  -- ---- what one turn is told
+
+  log_grown : (shares : Bool) (old new : Served S) (c : Continues store old new) → shares_of old ≡ shares → log_of shares new ≡ log_of shares old ++ applied c.more
+  log_grown true old new c is = let notes : Notes true c.more old new = subst (λ b. Notes b c.more old new) is c.notes in (λ i. kept_in (notes.0 i) ++ notes.1 i) ∙ sym (append_assoc (journal_of old) (open_of old) (applied c.more))
+  log_grown false old new c is = grown_alone c.more old new (subst (λ b. Notes b c.more old new) is c.notes).0
+
+  log_is : (shares : Bool) (old : Served S) → shares_of old ≡ shares → IsJournal (log_of shares old) old
+  log_is true old is = λ alone. absurd (true≢false (sym is ∙ alone))
+  log_is false old is = λ _. refl
+
+  lines_now : (shares : Bool) (ends ends2 : Ends) (next : Next) (was now : LinePeer) (old new : Served S) → IsServed store before old → (HasCleanDisk (state store last) → IsClean store new) → shares_of old ≡ shares → lines.TakesTurn store ends ends2 next was now old new
+      → TellsLinesNow store (store_of before) last shares (next ≢ Close) (lines_of was) (lines_of now) (length (log_of shares old)) (log_of shares new)
+  lines_now shares ends ends2 next was now old new served clean same (inl drops) = record {
+    calls = [];
+    came = [];
+    went = [];
+    waits = output_of (lines_of was);
+    input = append-nil (input_of (lines_of was)) ∙ sym (ap input_of drops.3);
+    output = append-nil (output_of (lines_of was));
+    received = ap received_of drops.3 ∙ sym (append-nil (received_of (lines_of was)));
+    sent = ap sent_of drops.3 ∙ sym (append-nil (sent_of (lines_of was)));
+    all_waits = λ stays. sym (ap output_of drops.3);
+    places = [];
+    answered = refl;
+  }
+  lines_now shares ends ends2 next was now old new served clean same (inr (waits, is, goes)) =
+      let told = lines_told shares (side_of (lines_of was)) is.calls old new served clean same is.chain in
+      let its : List ℕ = places_from (length (log_of shares old)) (applied told.0.more) in
+      record {
+        calls = is.calls;
+        came = is.came;
+        went = is.went;
+        waits = waits;
+        input = is.input;
+        output = is.output;
+        received = is.received;
+        sent = is.sent;
+        all_waits = goes;
+        places = its;
+        answered = subst (λ (log : List Told). AnswersLinesNow store (store_of before) last shares (side_of (lines_of was)) is.calls (length (log_of shares old)) its log) (sym (log_grown shares old new told.0 same)) (told.1 (log_of shares old) (log_is shares old same));
+      }
+
+  pages_now : (shares : Bool) (was now : HttpPeer) (old new : Served S) → IsServed store before old → (HasCleanDisk (state store last) → IsClean store new) → shares_of old ≡ shares → http.CallsService (web.Answers store) was now old new → TellsPagesNow store (store_of before) last shares was now (length (log_of shares old)) (log_of shares new)
+  pages_now shares was now old new served clean same is =
+      let told = pages_told shares is.0 old new served clean same is.2 in
+      let its : List ℕ = places_from (length (log_of shares old)) (applied told.0.more) in
+      record {
+        calls = is.0;
+        more = is.1;
+        places = its;
+        answered = subst (λ (log : List Told). AnswersPagesNow store (store_of before) last shares is.0 (length (log_of shares old)) its log) (sym (log_grown shares old new told.0 same)) (told.1 (log_of shares old) (log_is shares old same));
+      }
+
+  pub turn_tells : (shares : Bool) (ends ends2 : Ends) (next : Next) (was now : Peer) (old new : Served S) → IsServed store before old → (HasCleanDisk (state store last) → IsClean store new) → shares_of old ≡ shares → TakesTurn store ends ends2 next was now old new → TellsNow store (store_of before) last shares (next ≢ Close) was now old new
+  turn_tells shares ends ends2 next (Lines was) (Lines now) old new served clean same is = lines_now shares ends ends2 next was now old new served clean same is
+  turn_tells shares ends ends2 next (Pages was) (Pages now) old new served clean same is = pages_now shares was now old new served clean same is.0
+  turn_tells shares ends ends2 next (Http was) now old new served clean same is = tt
+  turn_tells shares ends ends2 next (Last was) now old new served clean same is = tt
+  turn_tells shares ends ends2 next (Lines was) (Http now) old new served clean same is = tt
+  turn_tells shares ends ends2 next (Lines was) (Pages now) old new served clean same is = tt
+  turn_tells shares ends ends2 next (Lines was) (Last now) old new served clean same is = tt
+  turn_tells shares ends ends2 next (Pages was) (Http now) old new served clean same is = tt
+  turn_tells shares ends ends2 next (Pages was) (Lines now) old new served clean same is = tt
+  turn_tells shares ends ends2 next (Pages was) (Last now) old new served clean same is = tt

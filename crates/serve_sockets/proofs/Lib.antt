@@ -3,4 +3,5 @@ pub mod Drives
 mod HearingLemmas
 mod Inquiring
 mod Answering
+mod VisitPlaces
 mod WholeRuns

@@ -8,6 +8,7 @@ pub mod Questions
 pub mod Lines
 pub mod Pages
 pub mod Last
+pub mod Visits
 pub mod EndToEnd
 pub mod Paces
 pub mod Stocks

@@ -1,5 +1,5 @@
 -- Lines of a door of lines, and what goes out in answer to them (this project's own).
-use Rattle.std.specs.Prelude.{◌≡◌, ◌≤◌, ◌⊎◌, ℕ, Bool, true, suc, length, slice_get, take, IsTrue, List, [], ◌∷◌, ◌++◌, Some, Result}
+use Rattle.std.specs.Prelude.{◌≡◌, ◌≤◌, ◌⊎◌, ℕ, Bool, true, false, suc, length, slice_get, take, IsTrue, List, [], ◌∷◌, ◌++◌, Some, Result}
 use Rattle.sqlite.specs.Held.{Held}
 use Rattle.sqlite_trees.specs.declared.store.Store.{Ghosts}
 use Rattle.account_machine.specs.declared.event.Reply.{Reply}
@@ -73,11 +73,40 @@ module _ {S : Type 0} (store : Ghosts S) (first last : Held S) where
       ⊎ ((TellsBackup side call ⊎ IsRefusal side call.0 call.1)
       × AnswersLineCalls side calls least places journal))
 
-  -- All that came are these lines, and what is no whole line yet; all that went, and what waits to
-  -- go, is what is told of them, in order.
-  pub record HasAnsweredLines (connection : LineConnection) (places : List ℕ) (journal : List Told)
-      : Type 0 where
+  -- The same of the lines of one turn that began with the journal as long as this. A question is
+  -- answered where no round is under way, by what stood there then, with what the turn told before.
+  abbrev pub AnswersLinesNow : (shares : Bool) (side : Side) → List LineCall
+      → (long : ℕ) (places : List ℕ) (journal : List Told) → Type 0
+  AnswersLinesNow shares side [] long places journal = places ≡ []
+  AnswersLinesNow shares side (call ∷ calls) long places journal =
+      ((told : Told) × TellsLine side call told × (rest : List ℕ)
+      × (places ≡ long ∷ rest) × (slice_get journal long ≡ Some told)
+      × AnswersLinesNow shares side calls (suc long) rest journal)
+      ⊎ (((shares ≡ false) × (long ≤ length journal) × TellsAnswer side call (take long journal)
+      × AnswersLinesNow shares side calls long places journal)
+      ⊎ ((TellsBackup side call ⊎ IsRefusal side call.0 call.1)
+      × AnswersLinesNow shares side calls long places journal))
+
+  -- what a turn takes and tells on a connection of lines; where the peer stays the rest waits to go
+  pub record TellsLinesNow (shares : Bool) (stays : Type 0) (before after : LineConnection)
+      (long : ℕ) (journal : List Told) : Type 0 where
+    pub calls : List LineCall
+    pub came : List ℕ
+    pub went : List ℕ
+    pub waits : List ℕ
+    pub input : input_of before ++ came ≡ taken calls ++ input_of after
+    pub output : output_of before ++ bytes_told calls ≡ went ++ waits
+    pub received : received_of after ≡ received_of before ++ came
+    pub sent : sent_of after ≡ sent_of before ++ went
+    pub all_waits : stays → waits ≡ output_of after
+    pub places : List ℕ
+    pub answered : AnswersLinesNow shares (side_of before) calls long places journal
+
+  -- All that came are these lines, and what is no whole line yet; all that went, and what waits, is
+  -- what is told of them, in order.
+  pub record HasAnsweredLines (connection : LineConnection) (waits : List ℕ) (places : List ℕ)
+      (journal : List Told) : Type 0 where
     pub calls : List LineCall
     pub came : received_of connection ≡ taken calls ++ input_of connection
-    pub goes : bytes_told calls ≡ sent_of connection ++ output_of connection
+    pub goes : bytes_told calls ≡ sent_of connection ++ waits
     pub answered : AnswersLineCalls (side_of connection) calls 0 places journal

@@ -1,5 +1,5 @@
 -- A browser's requests, and what goes out in answer to them (this project's own).
-use Rattle.std.specs.Prelude.{◌≡◌, ◌≤◌, ◌⊎◌, ℕ, Bool, suc, length, slice_get, take, List, [], ◌∷◌, Some, Result}
+use Rattle.std.specs.Prelude.{◌≡◌, ◌≤◌, ◌⊎◌, ℕ, Bool, false, suc, length, slice_get, take, List, [], ◌∷◌, ◌++◌, Some, Result}
 use Rattle.std.specs.Result.{IsOkAnd}
 use Rattle.http_server.specs.Connection.{config_of, history}
 use Rattle.http_server.specs.Exchange.{Call}
@@ -11,7 +11,7 @@ use Rattle.account_questions.specs.declared.question.Question.{Question}
 use Rattle.store_rounds.specs.declared.fault.StoreFault.{StoreFault}
 use Rattle.serve_peers.specs.HttpPeers.{calls_of, connection_of}
 use Rattle.serve_peers.specs.Journals.{Told}
-use Rattle.serve_peers.specs.Requests.{asked, has_long_body}
+use Rattle.serve_peers.specs.Requests.{has_long_body}
 use Rattle.serve_peers.specs.declared.entry.Entry.TheVariants as entry
 use Rattle.serve_peers.specs.declared.http_peer.HttpPeer.{HttpPeer}
 use Rattle.page_pages.specs.declared.outcome.Act.{Act}
@@ -60,6 +60,28 @@ module _ {S : Type 0} (store : Ghosts S) (first last : Held S) where
       × AnswersPageCalls calls n places journal)
       ⊎ (IsStill (asks_of call.0) call.0 call.1
       × AnswersPageCalls calls least places journal))
+
+  -- The same of the requests of one turn that began with the journal as long as this. A page is
+  -- answered where no round is under way, by what stood there then, with what the turn told before.
+  abbrev pub AnswersPagesNow : (shares : Bool) → List Call
+      → (long : ℕ) (places : List ℕ) (journal : List Told) → Type 0
+  AnswersPagesNow shares [] long places journal = places ≡ []
+  AnswersPagesNow shares (call ∷ calls) long places journal =
+      ((told : Told) × TellsAct call told × (rest : List ℕ)
+      × (places ≡ long ∷ rest) × (slice_get journal long ≡ Some told)
+      × AnswersPagesNow shares calls (suc long) rest journal)
+      ⊎ (((shares ≡ false) × (long ≤ length journal) × TellsPage call (take long journal)
+      × AnswersPagesNow shares calls long places journal)
+      ⊎ (IsStill (asks_of call.0) call.0 call.1
+      × AnswersPagesNow shares calls long places journal))
+
+  -- what a turn takes and tells on a browser's connection
+  pub record TellsPagesNow (shares : Bool) (before after : HttpPeer) (long : ℕ)
+      (journal : List Told) : Type 0 where
+    pub calls : List Call
+    pub more : calls_of after ≡ calls_of before ++ calls
+    pub places : List ℕ
+    pub answered : AnswersPagesNow shares calls long places journal
 
   -- what came are these requests, and what goes out are their responses, in order
   pub record HasAnsweredPages (peer : HttpPeer) (places : List ℕ) (journal : List Told) : Type 0 where

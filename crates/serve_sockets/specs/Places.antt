@@ -1,6 +1,5 @@
 -- Places in a journal, by which answers stand in the order of what was asked (this project's own).
 use Rattle.std.specs.Prelude.{◌≡◌, ◌≤◌, ⊤, ℕ, suc, slice_get, List, [], ◌∷◌, Some}
-use Rattle.std.specs.List.{Contains}
 
 -- these stand in the list at these places, which rise from the least on
 abbrev pub StandAt : {X : Type 0} (least : ℕ) (places : List ℕ) (some all : List X) → Type 0
@@ -8,7 +7,3 @@ StandAt least [] [] all = ⊤
 StandAt least (place ∷ places) (x ∷ some) all = (least ≤ place)
     × (slice_get all place ≡ Some x) × StandAt (suc place) places some all
 StandAt least _ _ all = ⊥
-
--- no place is in both
-abbrev pub AreApart : (first second : List ℕ) → Type 0
-AreApart first second = (place : ℕ) → Contains first place → Contains second place → ⊥

@@ -27,9 +27,9 @@ returns-clause-follows g c = follows g.S.Store (guests_of c.args.self.now) (gues
 pub returns-in_err-pass-clause-whole : goal.returns-in_err-pass-clause-whole
 returns-in_err-pass-clause-whole g c empty fresh =
     let goes = returns-in_err-pass-clause-goes_on g c in
-    from_end_to_end g.S.Store (lasts_by g.S.Store g.met.S.Store.settled g.met.S.Store.stays) goes.0 (guests_of c.args.self.now) (guests_of c.pass.new.self) c.args.served.now c.pass.new.served empty fresh goes.1
+    (from_end_to_end g.S.Store (lasts_by g.S.Store g.met.S.Store.settled g.met.S.Store.stays) (guests_of c.pass.new.self) c.args.served.now c.pass.new.served (record { steps = goes.0; first = guests_of c.args.self.now; empty = empty; does = goes.1 }) fresh).0
 
 pub returns-clause-whole : goal.returns-clause-whole
 returns-clause-whole g c empty fresh =
     let goes = returns-clause-goes_on g c in
-    from_end_to_end g.S.Store (lasts_by g.S.Store g.met.S.Store.settled g.met.S.Store.stays) goes.0 (guests_of c.args.self.now) (guests_of c.finish.new.self) c.args.served.now c.finish.new.served empty fresh goes.1
+    (from_end_to_end g.S.Store (lasts_by g.S.Store g.met.S.Store.settled g.met.S.Store.stays) (guests_of c.finish.new.self) c.args.served.now c.finish.new.served (record { steps = goes.0; first = guests_of c.args.self.now; empty = empty; does = goes.1 }) fresh).0
