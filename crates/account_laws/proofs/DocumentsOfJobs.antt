@@ -1,6 +1,7 @@
 -- Each document stands under the number of its job, as it was sent.
-use Rattle.std.proofs.Common.{◌≡◌, ℕ, Bool, true, false, cond, ◌==◌, ◌&&◌, not, List, [], ◌∷◌, ◌++◌, map, Option, Some, None, refl, sym, ap, ◌∙◌, arith, nat_lt, length}
+use Rattle.std.proofs.Common.{◌≡◌, ℕ, Bool, true, false, cond, ◌==◌, ◌&&◌, not, List, [], ◌∷◌, ◌++◌, map, Option, Some, None, refl, sym, ap, ◌∙◌, arith, nat_lt, length, codes}
 use Rattle.std.specs.FinMap.{FinMap, get, get-empty, get-insert}
+use Rattle.std.specs.Fmt.{decimal}
 use Rattle.std.specs.List.{flat_map}
 use Rattle.std.specs.Option.{option_to_list}
 use Rattle.std.proofs.lemmas.Bool.Decides.{nat_tests}
@@ -15,6 +16,7 @@ use Rattle.account_machine.specs.declared.event.Reply.{Reply}
 use Rattle.account_laws.proofs.Changes.{Makes, refuses, reads, makes, takes, acts, releases, starts, settles, grants, makes_one}
 use Rattle.account_lives.proofs.LifeLemmas.{of_each_life, unopened_answer}
 use Rattle.account_lives.specs.Lives.{IsLife, Life}
+use Rattle.account_laws.proofs.SpelledFields.{same_media_type}
 use Rattle.account_laws.specs.StandsAsTold.{as_sent}
 use Rattle.account_laws.specs.StationAnswers.{part_told}
 use Rattle.account_replies.specs.Parts.{part_of}
@@ -98,10 +100,14 @@ has_of_jobs = of_each_life HasOfJobs (record { begun = tt; by_account = λ past 
 abbrev its : (documents : FinMap place_cmp Document) (number : ℕ) (numbers : List ℕ) → List Document
 its documents number numbers = flat_map (λ k. option_to_list (get documents (number, k))) numbers
 
+same_part : (copies : ℕ) (document : Document) → part_of copies document ≡ part_told document.job copies (as_sent document)
+same_part copies document =
+    ap (λ (media : List ℕ). record { line = codes "document " ++ (decimal document.job ++ (codes " " ++ (decimal copies ++ (codes " " ++ (media ++ (codes " " ++ decimal (length document.bytes))))))); bytes = document.bytes }) (same_media_type document.format)
+
 one_handed : (number copies : ℕ) (found : Option Document) (rest : List Document) → ((document : Document) → found ≡ Some document → document.job ≡ number) → map (part_of copies) rest ≡ map (part_told number copies) (map as_sent rest)
     → map (part_of copies) (option_to_list found ++ rest) ≡ map (part_told number copies) (map as_sent (option_to_list found ++ rest))
 one_handed number copies None rest of same = same
-one_handed number copies (Some document) rest of same = ap (λ (parts : List Part). part_of copies document ∷ parts) same ∙ ap (λ (n : ℕ). part_told n copies (as_sent document) ∷ map (part_told number copies) (map as_sent rest)) (of document refl)
+one_handed number copies (Some document) rest of same = ap (λ (parts : List Part). part_of copies document ∷ parts) same ∙ ap (λ (part : Part). part ∷ map (part_told number copies) (map as_sent rest)) (same_part copies document) ∙ ap (λ (n : ℕ). part_told n copies (as_sent document) ∷ map (part_told number copies) (map as_sent rest)) (of document refl)
 
 handed : (documents : FinMap place_cmp Document) (number copies : ℕ) → AreOfJobs documents → (numbers : List ℕ) → map (part_of copies) (its documents number numbers) ≡ map (part_told number copies) (map as_sent (its documents number numbers))
 handed documents number copies are [] = refl

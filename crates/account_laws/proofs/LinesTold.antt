@@ -18,11 +18,12 @@ use Rattle.account_laws.specs.RefusalTexts.{text_of}
 use Rattle.account_laws.specs.StandsAsTold.{AccountStands, StandsAsTold, device_told}
 use Rattle.account_machine.specs.declared.event.Reply.TheVariants as reply
 use Rattle.account_questions.specs.Lists.{accounts_text, device_text, devices_text, grant_text, grants_text}
-use Rattle.account_questions.specs.Questions.{answer_about, answer_to}
+use Rattle.account_questions.specs.Questions.{answer_about, answer_to, asks_end}
 use Rattle.account_questions.specs.Quotas.{quota_text}
 use Rattle.account_questions.specs.declared.question.About.{About}
 use Rattle.account_questions.specs.declared.question.About.TheVariants.{Grants, Left}
-use Rattle.account_questions.specs.declared.question.Question.TheVariants.{Account, Check}
+use Rattle.account_questions.specs.declared.question.Question.{Question}
+use Rattle.account_questions.specs.declared.question.Question.TheVariants.{Account, Check, End}
 use Rattle.account_rules.proofs.DeviceMaps.{names_exact}
 use Rattle.account_rules.specs.Devices.{Devices as DeviceMap, name_cmp}
 use Rattle.account_rules.specs.declared.device.Device.{Device}
@@ -99,10 +100,15 @@ check_by : (account : List ℕ) (told : AccountTold) (room : Option RoomValue) (
 check_by account told None devices names was = ap (λ (o : Option ℕ). reply.Line (cond (is_none o) (text_of NoAccount) (codes "sound"))) (sym was.opened)
 check_by account told (Some room) devices names stands = ap (λ (o : Option ℕ). reply.Line (cond (is_none o) (text_of NoAccount) (codes "sound"))) (sym stands.opened)
 
+only_end : (question : Question) → asks_end question ≡ true → question ≡ End
+only_end End is = refl
+only_end _ is = let no : ⊥ = cc in absurd no
+
 pub others_are_told : law.OthersAreTold
 others_are_told = record {
   ping = λ life room devices names is. refl;
   end = λ life room devices names is. refl;
+  ends = only_end;
   check = λ account life room devices names is. check_by account (account_told life) room devices names (leaves_as_told life room devices is).account;
 }
 

@@ -105,7 +105,7 @@ module _ (account body : List ℕ) where
     template = template_attributes operation m
 
     whole : (Holds : PlainMessage → Type 0) → Holds m → OfMessage body Holds
-    whole Holds holds = record { message = m; spells = spells; is_one = λ other spelled. same_Some other m (sym (message_again other body spelled) ∙ is); holds = holds }
+    whole Holds holds = record { message = m; spells = spells; is_one = λ other spelled. same_Some other m (sym (message_again other body spelled) ∙ is); only_so = λ other spelled. spelled.bytes ∙ sym spells.bytes; holds = holds }
 
     held : (Holds : PlainMessage → Type 0) → OfMessage body Holds → Holds m
     held Holds of = subst Holds (same_Some of.message m (sym (message_again of.message body of.spells) ∙ is)) of.holds

@@ -250,6 +250,7 @@ read_off account body ask are (Some m) is reads =
       message = m;
       spells = spells;
       is_one = λ other spelled. same_Some other m (sym (message_again other body spelled) ∙ is);
+      only_so = λ other spelled. spelled.bytes ∙ sym spells.bytes;
       holds = subst (IsSpelled account m) both.1 (is_spelled account header m (header_of body m is) (message_bytes m body are spells) (all_pass account header m both.0));
     }
 

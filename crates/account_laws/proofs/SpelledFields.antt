@@ -306,7 +306,7 @@ cut_at (c ∷ bytes) = subst (λ (o : Option ℕ). IsCut (c ∷ bytes) (up_to o 
     by false is None rest = record { parameters = rest.parameters; parts = ap (λ (l : List ℕ). c ∷ l) rest.parts; goes_on = (eqb-false c 59 is, rest.goes_on); is_behind = rest.is_behind }
     by false is (Some p) rest = record { parameters = rest.parameters; parts = ap (λ (l : List ℕ). c ∷ l) rest.parts; goes_on = (eqb-false c 59 is, rest.goes_on); is_behind = rest.is_behind }
 
-same_media_type : (format : Format) → media_type format ≡ media_type_of format
+pub same_media_type : (format : Format) → media_type format ≡ media_type_of format
 same_media_type OctetStream = refl
 same_media_type Pdf = refl
 same_media_type PostScript = refl

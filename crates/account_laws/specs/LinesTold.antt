@@ -1,6 +1,6 @@
 -- The lines that questions are answered with, byte for byte, by what was told (all this project's
 -- own). No answer has a line feed at its end.
-use Rattle.std.specs.Prelude.{◌≡◌, ℕ, ◌+◌, ◌/◌, ◌%◌, pos, ◌-ℤ◌, ◌==◌, Bool, not, if◌then◌else◌, codes, List, ◌∷◌, ◌++◌, filter, length, take, Option, Some, None, is_none}
+use Rattle.std.specs.Prelude.{◌≡◌, true, ℕ, ◌+◌, ◌/◌, ◌%◌, pos, ◌-ℤ◌, ◌==◌, Bool, not, if◌then◌else◌, codes, List, ◌∷◌, ◌++◌, filter, length, take, Option, Some, None, is_none}
 use Rattle.std.specs.FinMap.{entries}
 use Rattle.std.specs.Fmt.{decimal, signed_decimal}
 use Rattle.std.specs.List.{flat_map}
@@ -10,7 +10,7 @@ use Rattle.account_laws.specs.RefusalTexts.{text_of}
 use Rattle.account_lives.specs.Lives.{IsLife, Life}
 use Rattle.account_machine.specs.declared.event.Reply.{Reply}
 use Rattle.account_machine.specs.declared.event.Reply.TheVariants as reply
-use Rattle.account_questions.specs.Questions.{answer_to}
+use Rattle.account_questions.specs.Questions.{answer_to, asks_end}
 use Rattle.account_questions.specs.declared.question.About.TheVariants.{Grants, Left}
 use Rattle.account_questions.specs.declared.question.Question.{Question}
 use Rattle.account_questions.specs.declared.question.Question.TheVariants.{Account, Accounts, Check, Devices, End, Ping}
@@ -91,11 +91,12 @@ DevicesAreTold = IsAnswered Devices (λ told.
 
 -- ---- questions that tell nothing of an account but whether it was opened
 
--- A server that is asked whether it is there, or to end, says ok. The rows of an account that was
--- opened are sound.
+-- A server that is asked whether it is there, or to end, says ok, and ends only where it is asked
+-- to. The rows of an account that was opened are sound.
 pub record OthersAreTold : Type 0 where
   pub ping : IsAnswered Ping (λ told. reply.Line (codes "ok"))
   pub end : IsAnswered End (λ told. reply.Line (codes "ok"))
+  pub ends : (question : Question) → asks_end question ≡ true → question ≡ End
   pub check : (account : List ℕ)
       → IsAnswered (Check account) (λ told. if_opened told (codes "sound"))
 

@@ -56,11 +56,12 @@ pub record IsSpelled (account : List ℕ) (m : PlainMessage) (ask : PlainAsk) : 
   pub target : IsFor ask.operation account attributes ask.base ask.job
   pub says : SaysAll ask.operation m.groups attributes ask
 
--- one message spells the bytes, and no other; this holds of it
+-- one message spells the bytes, and no other; it spells no other bytes; this holds of it
 pub record OfMessage (body : List ℕ) (Holds : PlainMessage → Type 0) : Type 0 where
   pub message : PlainMessage
   pub spells : Spells message body
   pub is_one : (other : PlainMessage) → Spells other body → other ≡ message
+  pub only_so : (other : List ℕ) → Spells message other → other ≡ body
   pub holds : Holds message
 
 -- a request that passes its checks asks what its message says

@@ -8,12 +8,12 @@ use Rattle.account_laws.specs.Deeds.{Released, Settled}
 use Rattle.account_laws.specs.JobsTold.{JobTold, Sent, Stage, Waits, IsFree, Prints, impressions_told, need_told}
 use Rattle.account_laws.specs.RefusalTexts.{text_of}
 use Rattle.account_laws.specs.Refusals.{Check, first_refusal}
+use Rattle.account_laws.specs.SpelledAttributes.{media_type_of}
 use Rattle.account_lives.specs.Lives.{Life, OfLives}
 use Rattle.account_machine.specs.Events.{OfAccount, Release, Start, Settle}
 use Rattle.account_machine.specs.declared.event.Reply.{Reply}
 use Rattle.account_machine.specs.declared.event.Reply.TheVariants as reply
 use Rattle.account_replies.specs.declared.part.Part.{Part}
-use Rattle.account_rules.specs.Formats.{media_type}
 use Rattle.account_rules.specs.declared.refusal.Word.{Word}
 use Rattle.account_rules.specs.declared.refusal.Word.TheVariants.{DeviceOff, ImpressionsUnknown, Incomplete, NoAccount, NoDevice, NoJob, NotHeld, NotPending, NotProcessing, OtherDevice, Password, Quota, Rate}
 
@@ -118,7 +118,7 @@ part_told number copies sent = record {
       ++ (codes " "
       ++ (decimal copies
       ++ (codes " "
-      ++ (media_type sent.format ++ (codes " " ++ decimal (length sent.bytes)))))));
+      ++ (media_type_of sent.format ++ (codes " " ++ decimal (length sent.bytes)))))));
   bytes = sent.bytes;
 }
 
