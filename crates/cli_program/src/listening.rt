@@ -1,6 +1,6 @@
 //! The command `listen`: connections on a port of this machine, served one after another.
 ghost use Rattle.std.specs.Prelude.{◌≡◌, false};
-ghost use Rattle.room_serve.specs.Connections.{CarriesOutAll, TakesLivesOn};
+ghost use Rattle.room_serve.specs.Connections.{ServesMessages, TakesLivesOn};
 ghost use Rattle.room_serve.specs.Wires.{reader_of, wire_has_ended, writer_of};
 
 use crate::database::serve_on_database;
@@ -116,9 +116,10 @@ fn serve_connection<S: Alter>(
     }
 }
 
-/// Serves the messages of a connection, each at the clock's moment: each that is applied was taken
-/// of what came, is applied once, and is answered. Answers whether all answers went out whole, so
-/// that the connection can be ended in order (`part`).
+/// Serves the messages of a connection, each at the clock's moment, by a call of `serve_one` for
+/// each and by nothing else. Answers whether all went well, so that the connection can be ended in
+/// order (`part`): the clock told each moment, and every call was answered, up to the end of the
+/// connection or the last of so many.
 fn serve_messages<S: Alter, R: Source, W: Sink>(
     rt: &HostRuntime,
     store: &mut Store<S>,
@@ -127,9 +128,10 @@ fn serve_messages<S: Alter, R: Source, W: Sink>(
     requires going { wire_has_ended wire.old ≡ false }
     requires reads { R.failures (reader_of wire.old) ≡ 0 }
     requires writes { W.failures (writer_of wire.old) ≡ 0 }
-    ensures carried { CarriesOutAll S.Store R.left W.given wire.old store.old store.new }
+    ensures calls { ServesMessages S.Store R.left W.given MOST_MESSAGES result
+        wire.old wire.new store.old store.new }
 {
-    'messages: for _ in 0..MOST_MESSAGES {
+    'messages: for served in 0..MOST_MESSAGES {
         let Some(now) = moment(rt) else {
             return false;
         };

@@ -1,7 +1,9 @@
 //! The command `serve`: one process for clients over HTTP, browsers, stations and operators. Here
 //! it is set up: its database, log, kept space and doors; `serve_sockets` serves.
-ghost use Rattle.std.specs.Prelude.{◌≡◌, [], IfOk};
-ghost use Rattle.serve_peers.specs.Journals.{open_of, rounds_of};
+ghost use Rattle.std.specs.Prelude.{◌≡◌, ◌⊎◌, IfOk, IsErr};
+ghost use Rattle.serve_peers.specs.Journals.{store_of};
+ghost use Rattle.serve_sockets.specs.EndToEnd.{IsFresh, IsWhole, ServesWhole};
+ghost use Rattle.serve_sockets.specs.Halls.{IsEmpty, guests_of};
 
 use crate::database::serve_on_database;
 use crate::serving_command::ServingCommand;
@@ -51,21 +53,26 @@ impl Drop for ServeCommand<'_> {
 }
 
 impl ServingCommand for ServeCommand<'_> {
-    /// Serves at the doors, and hands back the connection to the database, which is still open.
+    /// Serves at the doors, and hands back the connection to the database, which is still open. All
+    /// that was served is one whole, from what came on each connection to what a crash finds. Where
+    /// the command can't begin nothing was served.
     fn serve<S: Alter + Drop, W: Write>(
         &mut self,
         rt: &HostRuntime,
         store: Store<S>,
         output: &mut W,
-    ) -> (Connection<S>, Result<(), Fault>) {
+    ) -> (Connection<S>, Result<(), Fault>)
+        ensures whole { ServesWhole S.Store store result.0
+            ⊎ (IsErr result.1 × (result.0 ≡ store)) }
+    {
         let mut served = Served::new(rt.alloc(), store, self.moment);
         let ended = serve_at_doors(rt, &mut served, self.asked, &mut self.hall, output);
         (served.close(), ended)
     }
 }
 
-/// Sets up what the command asks for, the log, the kept space and the doors, and serves at them
-/// until that ends. The hall is handed out in `kept`.
+/// Sets up what the command asks for, and serves at the doors until that ends. The hall is handed
+/// out in `kept`. An error before that leaves the tables as they were.
 fn serve_at_doors<S: Alter, W: Write>(
     rt: &HostRuntime,
     served: &mut Served<S>,
@@ -73,8 +80,26 @@ fn serve_at_doors<S: Alter, W: Write>(
     kept: &mut Option<Hall>,
     output: &mut W,
 ) -> Result<(), Fault>
-    requires rounds { rounds_of served.old ≡ [] }
-    requires none_open { open_of served.old ≡ [] }
+    requires fresh { IsFresh served.old }
+    ensures whole { ServesWhole S.Store (store_of served.old) (store_of served.new)
+        ⊎ (IsErr result × (store_of served.new ≡ store_of served.old)) }
+{
+    set_up(rt, served, asked)?;
+    let mut hall = open(rt, asked, output)?;
+    let ended = run_hall(rt, &mut hall, served);
+    *kept = Some(hall);
+    Ok(ended?)
+}
+
+/// Sets up the log, the kept space, and whether the pages want a password.
+fn set_up<S: Alter>(
+    rt: &HostRuntime,
+    served: &mut Served<S>,
+    asked: &Serving<'_>,
+) -> Result<(), Fault>
+    requires fresh { IsFresh served.old }
+    ensures fresh { IsFresh served.new }
+    ensures same { store_of served.new ≡ store_of served.old }
 {
     if let Some(path) = asked.log {
         let file = LogFile::open(rt, path)?;
@@ -82,14 +107,14 @@ fn serve_at_doors<S: Alter, W: Write>(
     }
     served.set_spare(spare_for(rt, asked.database)?);
     served.set_needs_password(asked.needs_password);
-    let mut hall = open(rt, asked, output)?;
-    let ended = run_hall(rt, &mut hall, served);
-    *kept = Some(hall);
-    Ok(ended?)
+    Ok(())
 }
 
 /// Runs the hall until an operator ends it, with backups as files of this machine.
-fn run_hall<S: Alter>(rt: &HostRuntime, hall: &mut Hall, served: &mut Served<S>) -> io::Result<()> {
+fn run_hall<S: Alter>(rt: &HostRuntime, hall: &mut Hall, served: &mut Served<S>) -> io::Result<()>
+    ensures whole { IsEmpty hall.old → IsFresh served.old
+        → IsWhole S.Store (guests_of hall.new) served.old served.new }
+{
     let mut copies = Copies::new(CopyFiles::new(rt));
     hall.run(rt, served, &mut copies)
 }
@@ -106,7 +131,9 @@ fn spare_for(rt: &HostRuntime, database: &str) -> io::Result<Spare> {
 
 /// Opens the doors that the command asks for, prints their addresses, and makes the hall behind
 /// them.
-fn open<W: Write>(rt: &HostRuntime, asked: &Serving<'_>, output: &mut W) -> io::Result<Hall> {
+fn open<W: Write>(rt: &HostRuntime, asked: &Serving<'_>, output: &mut W) -> io::Result<Hall>
+    ensures { IfOk result IsEmpty }
+{
     let doors = doors_at(rt, asked.doors.as_slice())?;
     tell(output, asked.doors.as_slice(), doors.as_slice())?;
     Hall::open(rt, doors, RandomState::new(rt)?)

@@ -9,3 +9,4 @@ pub mod LivesOn
 pub mod FoundLives
 pub mod FoundLists
 pub mod Carried
+pub mod Paths

@@ -9,3 +9,4 @@ pub mod Exchanges
 pub mod LivesInFiles
 pub mod Connections
 pub mod Crashes
+pub mod Paths

@@ -22,6 +22,7 @@ mod fault;
 mod laws;
 mod outcome;
 mod run;
+mod targets;
 mod wire;
 
 pub use exchange::serve_one;
@@ -33,4 +34,5 @@ pub use laws::{
 pub use listen_http::WireFault;
 pub use outcome::Outcome;
 pub use run::run_events;
+pub use targets::paths_are_accounts;
 pub use wire::{After, Wire};

@@ -1,5 +1,5 @@
 -- What a turn of a peer that speaks HTTP keeps, and what it comes to (all this project's own).
-use Rattle.std.specs.Prelude.{◌≡◌, ◌⊎◌, ℕ, Bool, List, [], ◌++◌, IsTrue}
+use Rattle.std.specs.Prelude.{◌≡◌, ◌⊎◌, ◌<◌, ℕ, Bool, List, [], ◌++◌, length, IsTrue}
 use Rattle.http.specs.declared.request.Request.{Request}
 use Rattle.http_server.specs.Connection.{config_of, history}
 use Rattle.http_server.specs.Exchange.{Call, Calls}
@@ -22,6 +22,10 @@ patience_of peer = peer.progress.patience
 -- how many bytes came since the last answer
 abbrev pub came_of : HttpPeer → ℕ
 came_of peer = peer.load.coming
+
+-- an answer waits to go
+abbrev pub HasAnswer : HttpPeer → Type 0
+HasAnswer peer = 0 < length (history (connection_of peer)).pending
 
 -- its requests so far, each with its answer
 abbrev pub calls_of : HttpPeer → List Call

@@ -1,8 +1,9 @@
 -- What a connection of lines has taken and answered (all this project's own).
-use Rattle.std.specs.Prelude.{◌≡◌, ◌≢◌, ◌⊎◌, ℕ, Bool, List, [], ◌∷◌, ◌++◌, None, IsTrue}
-use Rattle.std.specs.List.{flat_map}
+use Rattle.std.specs.Prelude.{◌≡◌, ◌≢◌, ◌⊎◌, ◌==◌, ◌<◌, ⊤, ℕ, Bool, false, List, [], ◌∷◌, ◌++◌, length, None, IsTrue}
+use Rattle.std.specs.List.{All, flat_map}
 use Rattle.sqlite_trees.specs.declared.store.Store.{Ghosts}
-use Rattle.serve_peers.specs.Lines.{IsTold, input_of, line_end, output_of, received_of, sent_of, side_of}
+use Rattle.serve_peers.specs.Lines.{IsTold, ended_of, input_of, line_end, output_of, received_of, sent_of, side_of}
+use Rattle.serve_peers.specs.LineTexts.{bad_line_text}
 use Rattle.serve_peers.specs.declared.line_connection.LineConnection.{LineConnection}
 use Rattle.serve_peers.specs.declared.line_connection.Side.{Side}
 use Rattle.serve_peers.specs.declared.served.Served.{Served}
@@ -32,6 +33,36 @@ taken calls = flat_map (λ (call : LineCall). call.0) calls
 abbrev pub bytes_told : List LineCall → List ℕ
 bytes_told calls = flat_map (λ (call : LineCall). call.1) calls
 
+-- ---- one answer for one line
+
+-- no byte of it is a line feed
+abbrev pub HasNoFeed : List ℕ → Type 0
+HasNoFeed bytes = All (λ b. (b == 10) ≡ false) bytes
+
+-- one line, and the line feed that ends it
+abbrev pub IsLine : (came : List ℕ) → Type 0
+IsLine came = (line : List ℕ) × (came ≡ line ++ 10 ∷ []) × HasNoFeed line
+
+-- what no line feed ends, which is told to be no line
+abbrev pub IsRest : LineCall → Type 0
+IsRest call = (0 < length call.0) × HasNoFeed call.0 × (call.1 ≡ bad_line_text)
+
+-- Each is one line. Where nothing more comes the last may be a rest.
+abbrev pub AreLines : (over : Type 0) → List LineCall → Type 0
+AreLines over [] = ⊤
+AreLines over (call ∷ calls) = (IsLine call.0 × AreLines over calls)
+    ⊎ (IsRest call × (calls ≡ []) × over)
+
+-- Each was taken once all that was told before had gone: but for what is told of the last, all went.
+abbrev pub TakenBehind : (waited : List ℕ) (calls : List LineCall) (went : List ℕ) → Type 0
+TakenBehind waited calls went = (calls ≡ []) ⊎ ((front : List LineCall) × (last : LineCall)
+    × (rest : List ℕ) × (calls ≡ front ++ last ∷ [])
+    × (went ≡ (waited ++ bytes_told front) ++ rest))
+
+-- nothing more comes on it, and nothing that came is left
+abbrev pub IsOver : LineConnection → Type 0
+IsOver connection = IsTrue (ended_of connection) × (length (input_of connection) ≡ 0)
+
 module _ {S : Type 0} (store : Ghosts S) (side : Side) where
   -- what each line says is applied, once, and told, or it asks a question, which is answered, or it is
   -- refused, which changes nothing, and is told of
@@ -55,6 +86,9 @@ module _ {S : Type 0} (store : Ghosts S) where
     pub side : side_of after ≡ side_of before
     pub received : received_of after ≡ received_of before ++ came
     pub sent : sent_of after ≡ sent_of before ++ went
+    pub lines : AreLines (IsOver after) calls
+    pub ended : IsTrue (ended_of before) → IsTrue (ended_of after) × (came ≡ [])
+    pub behind : TakenBehind (output_of before) calls went
 
   -- what still comes where all was said is dropped
   abbrev pub DropsBytes : (ends ends2 : Ends) (before after : LinePeer) (old new : Served S) → Type 0

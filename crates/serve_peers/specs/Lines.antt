@@ -38,6 +38,10 @@ side_of connection = connection.side
 abbrev pub input_of : LineConnection → List ℕ
 input_of connection = connection.input.items
 
+-- nothing more is read on it: it has ended, or a line was too long
+abbrev pub ended_of : LineConnection → Bool
+ended_of connection = connection.has_ended
+
 -- what waits to go
 abbrev pub output_of : LineConnection → List ℕ
 output_of connection = connection.output.items
@@ -62,6 +66,7 @@ pub record IsNewOf (whose : Side) (connection : LineConnection) : Type 0 where
 abbrev pub IsQuiet : (before after : LineConnection) → Type 0
 IsQuiet before after =
     (received_of after ≡ received_of before) × (sent_of after ≡ sent_of before)
+    × (ended_of after ≡ ended_of before)
 
 abbrev pub grammar_of : (side : Side) (moment : ℕ) → Grammar
 grammar_of Station moment = grammar_is.Station moment

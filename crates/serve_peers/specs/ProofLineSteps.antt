@@ -1,9 +1,9 @@
 -- For the proof of the code alone: the steps of a peer that speaks lines, of which nothing is
 -- applied in all but one.
-use Rattle.std.specs.Prelude.{◌≡◌, ◌≢◌, ◌⊎◌, ℕ, List, [], ◌++◌, Option, Some}
+use Rattle.std.specs.Prelude.{◌≡◌, ◌≢◌, ◌⊎◌, ◌<◌, ℕ, false, true, List, [], ◌++◌, length, None, Option, Some, IsTrue}
 use Rattle.std.specs.Io.KnownBytes.{Appends, Consumes}
 use Rattle.sqlite_trees.specs.declared.store.Store.{Ghosts}
-use Rattle.serve_peers.specs.Lines.{IsQuiet, input_of, output_of, received_of, sent_of, side_of}
+use Rattle.serve_peers.specs.Lines.{ended_of, input_of, line_end, output_of, received_of, sent_of, side_of}
 use Rattle.serve_peers.specs.LineTexts.{bad_line_text}
 use Rattle.serve_peers.specs.declared.line_connection.LineConnection.{LineConnection}
 use Rattle.serve_peers.specs.declared.served.Served.{Served}
@@ -22,6 +22,7 @@ pub record ReceivesBytes (left left2 : Option (List ℕ)) (before after : LineCo
   pub side : side_of after ≡ side_of before
   pub received : received_of after ≡ received_of before ++ came
   pub sent : sent_of after ≡ sent_of before
+  pub goes_on : ended_of before ≡ false
 
 -- bytes went
 pub record SendsBytes (given given2 : Option (List ℕ)) (before after : LineConnection)
@@ -33,17 +34,23 @@ pub record SendsBytes (given given2 : Option (List ℕ)) (before after : LineCon
   pub side : side_of after ≡ side_of before
   pub received : received_of after ≡ received_of before
   pub sent : sent_of after ≡ sent_of before ++ went
+  pub ended : ended_of after ≡ ended_of before
 
 -- what is left is no line; a connection that is over may have lost what tells so
 pub record RefusesRest (next : Option Next) (before after : LineConnection) : Type 0 where
   pub input : input_of after ≡ []
   pub output : next ≢ Some Close → output_of after ≡ output_of before ++ bad_line_text
   pub side : side_of after ≡ side_of before
-  pub quiet : IsQuiet before after
+  pub received : received_of after ≡ received_of before
+  pub sent : sent_of after ≡ sent_of before
+  pub some : 0 < length (input_of before)
+  pub none : line_end (input_of before) ≡ None
+  pub ended : IsTrue (ended_of after)
 
 -- no more comes: all was said, or what is left is told to be no line
 abbrev pub IsEnded : (next : Option Next) (before after : LineConnection) → Type 0
-IsEnded next before after = (after ≡ before) ⊎ RefusesRest next before after
+IsEnded next before after =
+    (after ≡ record before { has_ended = true }) ⊎ RefusesRest next before after
 
 module _ {S : Type 0} (store : Ghosts S) where
   -- what one step comes to; a connection that is over may lose what waits to go

@@ -9,7 +9,7 @@ use Rattle.room_store.specs.Questions.{AnswersQuestion}
 use Rattle.store_rounds.specs.declared.fault.StoreFault.{StoreFault}
 use Rattle.serve_peers.specs.declared.entry.Entry.{Entry}
 use Rattle.serve_peers.specs.declared.served.Served.{Served}
-use Rattle.serve_peers.specs.Journals.{Notes, Told, ends_of, is_lost_of, moment_of, open_of, rounds_of, shares_of, store_of}
+use Rattle.serve_peers.specs.Journals.{Notes, Told, ends_of, is_lost_of, moment_of, needs_password_of, open_of, rounds_of, shares_of, store_of}
 use Rattle.serve_peers.specs.Applying.{AppliesEntry, DoesEach}
 
 module _ {S : Type 0} (store : Ghosts S) where
@@ -21,6 +21,7 @@ module _ {S : Type 0} (store : Ghosts S) where
     pub shares : shares_of new ≡ shares_of old
     pub is_lost : is_lost_of new ≡ is_lost_of old
     pub moment : moment_of new ≡ moment_of old
+    pub background : new.background ≡ old.background
 
   -- Outside a round a question is answered, by the tables as they are. It is an empty round, and
   -- nothing else is noted of it.
@@ -37,10 +38,12 @@ module _ {S : Type 0} (store : Ghosts S) where
       background = record old.background { ends = ends_of new };
     }
 
-  -- what came is noted, and it, and nothing else, made of the tables what they are
+  -- What came is noted, and it, and nothing else, made of the tables what they are. Whether pages
+  -- take a file without a password stays.
   pub record Continues (old new : Served S) : Type 0 where
     pub more : List (Option Told)
     pub notes : Notes (shares_of old) more old new
     pub does : DoesEach store (shares_of old) (store_of old) more (store_of new)
     pub shares : shares_of new ≡ shares_of old
     pub is_lost : is_lost_of new ≡ is_lost_of old
+    pub needs_password : needs_password_of new ≡ needs_password_of old

@@ -41,7 +41,7 @@ impl Drop for HttpPeer {
 }
 
 impl HttpPeer {
-    ghost use Rattle.serve_peers.specs.HttpPeers.{CallsService, GoesOn, IsAtRest, IsLater, IsStill, KeepsLimits, calls_of, came_of, connection_of, patience_of};
+    ghost use Rattle.serve_peers.specs.HttpPeers.{CallsService, GoesOn, HasAnswer, IsAtRest, IsLater, IsStill, KeepsLimits, calls_of, came_of, connection_of, patience_of};
     ghost use Rattle.serve_peers.specs.ProofHttpSteps.{ReadsBytes, WritesBytes};
 
     /// A peer that came just now. It takes no memory.
@@ -203,7 +203,7 @@ impl HttpPeer {
 
     /// Whether an answer waits to go.
     pub fn has_output(&self) -> bool
-        ensures { IsTrue result ↔ (0 < length (history (connection_of self.now)).pending) }
+        ensures { IsTrue result ↔ HasAnswer self.now }
     {
         self.connection.wants_write()
     }
@@ -216,7 +216,8 @@ impl HttpPeer {
     /// Whether a large request is coming that is longer than this, in bytes of its body, while no
     /// answer waits to go.
     pub fn outgrows(&self, most: usize) -> bool
-        ensures { IsTrue result → most + longest_head < came_of self.now }
+        ensures longer { IsTrue result → most + longest_head < came_of self.now }
+        ensures none_waits { IsTrue result → ¬ (HasAnswer self.now) }
     {
         let longest = most.saturating_add(HEAD_LIMIT);
         self.load.is_large() && self.load.came_so_far() > longest && !self.has_output()

@@ -7,7 +7,7 @@ ghost use Rattle.input_lines.specs.Backups.{IsBackupOf};
 ghost use Rattle.serve_peers.specs.LineTexts.{bad_line_text, has_to_warn};
 ghost use Rattle.serve_peers.specs.OwnDevices.{is_own};
 ghost use Rattle.serve_peers.specs.Turns.{Continues};
-ghost use Rattle.serve_peers.specs.Lines.{AnswersLine, Comes, IsEntryOf, IsNewOf, IsPutOff, IsQuiet, IsWaiting, Leaves, LosesAnswer, MayAsk, asks_documents, grammar_of, input_of, line_end, output_of, received_of, sent_of, side_of, longest_line};
+ghost use Rattle.serve_peers.specs.Lines.{AnswersLine, Comes, IsEntryOf, IsNewOf, IsPutOff, IsQuiet, IsWaiting, Leaves, LosesAnswer, MayAsk, asks_documents, ended_of, grammar_of, input_of, line_end, output_of, received_of, sent_of, side_of, longest_line};
 
 use crate::entry::Entry;
 use crate::line_text::{put_answer, put_bad, put_refused, put_told};
@@ -97,6 +97,8 @@ pub struct LineConnection {
     pub(crate) reads: History<BytesMut, usize>,
     /// Each write: what waited, and how much of it went.
     pub(crate) writes: History<Rope, usize>,
+    /// No more is read: the peer has ended, or sent a line that is too long.
+    pub(crate) has_ended: bool,
 }
 
 // By hand, in the place of `#[derive(Drop)]`: the head of lib.rt says why.
@@ -109,6 +111,7 @@ impl Drop for LineConnection {
             output: _,
             reads: _,
             writes: _,
+            has_ended: _,
         } = self;
     }
 }
@@ -125,6 +128,7 @@ impl LineConnection {
             output: Rope::new(alloc),
             reads: History::new(),
             writes: History::new(),
+            has_ended: false,
         }
     }
 
@@ -137,6 +141,7 @@ impl LineConnection {
         ensures quiet { OnErr result (IsQuiet self.old self.new) }
         ensures output { output_of self.new ≡ output_of self.old }
         ensures sent { sent_of self.new ≡ sent_of self.old }
+        ensures ended { ended_of self.new ≡ ended_of self.old }
         ensures side { side_of self.new ≡ side_of self.old }
     {
         self.input.reserve(ROOM)?;
@@ -330,6 +335,7 @@ impl LineConnection {
         ensures left { OnErr result (Keeps (W.contents writer.old) (W.contents writer.new)) }
         ensures input { input_of self.new ≡ input_of self.old }
         ensures received { received_of self.new ≡ received_of self.old }
+        ensures ended { ended_of self.new ≡ ended_of self.old }
         ensures side { side_of self.new ≡ side_of self.old }
     {
         let count = writer.write(self.output.chunk())?;

@@ -1,9 +1,9 @@
 //! A peer that speaks lines: what each of its turns does with its connection, and how long it may
 //! take.
 
-ghost use Rattle.std.specs.Prelude.{◌≡◌, ◌≢◌, ◌≤◌, ◌+◌, length, nat_lt, IsFalse, Some};
+ghost use Rattle.std.specs.Prelude.{◌≡◌, ◌≢◌, ◌≤◌, ◌+◌, false, length, nat_lt, IsFalse, None, Some};
 ghost use Rattle.serve_peers.specs.Turns.{Continues};
-ghost use Rattle.serve_peers.specs.Lines.{IsNewOf, input_of, output_of};
+ghost use Rattle.serve_peers.specs.Lines.{IsNewOf, ended_of, input_of, line_end, output_of};
 
 use crate::line_connection::Front;
 use crate::patience::Patience;
@@ -19,8 +19,6 @@ use std::io::{Read, Write};
 pub struct LinePeer {
     connection: LineConnection,
     progress: Progress,
-    /// No more is read: the peer has ended, or sent a line that is too long.
-    has_ended: bool,
 }
 
 // By hand, in the place of `#[derive(Drop)]`: the head of lib.rt says why.
@@ -29,7 +27,6 @@ impl Drop for LinePeer {
         let LinePeer {
             connection: _,
             progress: _,
-            has_ended: _,
         } = self;
     }
 }
@@ -45,7 +42,6 @@ impl LinePeer {
         LinePeer {
             connection: LineConnection::new(alloc, side),
             progress: Progress::new(ticks),
-            has_ended: false,
         }
     }
 
@@ -104,7 +100,7 @@ impl LinePeer {
         match self.connection.answer(served) {
             Ok(Front::Answered) => None,
             Ok(Front::PutOff) => Some(Next::Again),
-            Ok(Front::Unended) if self.has_ended || self.connection.is_too_long() => {
+            Ok(Front::Unended) if self.connection.has_ended || self.connection.is_too_long() => {
                 self.end(served, turn.ticks)
             }
             Ok(Front::Unended) if self.progress.has_all => Some(Next::Wait),
@@ -136,6 +132,7 @@ impl LinePeer {
 
     /// Reads once, and keeps whether the peer has ended.
     fn receive<R: Read>(&mut self, reader: &mut R, turn: Turn) -> Option<Next>
+        requires open { ended_of (lines_of self.old) ≡ false }
         ensures receives { ReceivesBytes (R.remaining reader.old) (R.remaining reader.new)
             (lines_of self.old) (lines_of self.new) }
         ensures waits { result ≡ Some Next.Wait
@@ -144,7 +141,7 @@ impl LinePeer {
     {
         match self.connection.read_from(reader) {
             Ok(0) => {
-                self.has_ended = true;
+                self.connection.has_ended = true;
                 None
             }
             Ok(count) => {
@@ -158,12 +155,13 @@ impl LinePeer {
     /// Ends the reading: the input has ended, or a line is too long. A rest that is no line is
     /// answered as a bad one first (`None`: that has to go). Else all was said, and the peer leaves.
     fn end<S: Alter>(&mut self, served: &mut Served<S>, ticks: u64) -> Option<Next>
+        requires none { line_end (input_of (lines_of self.old)) ≡ None }
         ensures ended { IsEnded result (lines_of self.old) (lines_of self.new) }
         ensures same { served.new ≡ served.old }
         ensures waits { result ≢ Some Next.Wait }
         ensures moves { result ≢ Some Next.HeldBack }
     {
-        self.has_ended = true;
+        self.connection.has_ended = true;
         if self.connection.has_rest() {
             served.log_refused_line(self.connection.side().door(), LineRefusal::BadLine);
             return match self.connection.refuse_rest() {

@@ -16,6 +16,7 @@ use Rattle.sqlite_trees.specs.declared.store.Store.{Ghosts}
 use Rattle.http.specs.Request.{body_of}
 use Rattle.input_http.specs.declared.refusal.Refusal.{Refusal}
 use Rattle.serve_peers.specs.ProofServices.{one_more, stays}
+use Rattle.serve_peers.proofs.LineCalls.{lines_then as are_lines_then, none_later}
 use Rattle.serve_peers.proofs.LineEnds.{only_ping}
 use Rattle.serve_peers.proofs.GatheringKept.{gathered_only}
 use Rattle.serve_peers.proofs.Journaling.{applied_then, background_only, line_chain, looked, then}
@@ -26,7 +27,7 @@ use Rattle.serve_peers.specs.Journals.{Notes, Told, applied, journal_of, kept_in
 use Rattle.serve_peers.specs.Turns.{Continues}
 use Rattle.serve_peers.specs.LastPeers.{SaysLast, left_of}
 use Rattle.serve_peers.specs.LinePeers as lines
-use Rattle.serve_peers.specs.LinePeers.{LineCall, TakesLines, bytes_told, lines_of, taken}
+use Rattle.serve_peers.specs.LinePeers.{IsOver, LineCall, TakesLines, bytes_told, lines_of, taken}
 use Rattle.serve_peers.specs.LineTexts.{has_to_warn}
 use Rattle.serve_peers.specs.Keeping.{backup_of}
 use Rattle.serve_peers.specs.Lines.{Asks, BacksUp, Inquires, IsRefused, IsTold, input_of, output_of, received_of, sent_of, side_of}
@@ -230,14 +231,14 @@ module _ {S : Type 0} (store : Ghosts S) (first last : Held S) where
   pub answered_longer : (peer : Peer) (places : List ℕ) (journal more : List Told) → IsAnswered store first last peer places journal → IsAnswered store first last peer places (journal ++ more)
   answered_longer (Http peer) places journal more is = record { served = is.served; mine = is.mine; answered = is.answered; stand = stand_longer 0 places is.mine journal more is.stand }
   answered_longer (Pages peer) places journal more is = record { served = is.served; answered = pages_longer (calls_of peer) 0 places journal more is.answered }
-  answered_longer (Lines peer) places journal more is = record { calls = is.calls; came = is.came; goes = is.goes; answered = lines_longer (side_of (lines_of peer)) is.calls 0 places journal more is.answered }
+  answered_longer (Lines peer) places journal more is = record { calls = is.calls; lines = is.lines; came = is.came; goes = is.goes; answered = lines_longer (side_of (lines_of peer)) is.calls 0 places journal more is.answered }
   answered_longer (Last peer) places journal more (inl is) = inl (record { told = is.told; stands = stand_longer 0 places (is.told ∷ []) journal more is.stands; went = is.went; text = is.text })
   answered_longer (Last peer) places journal more (inr is) = inr is
 
   pub was_longer : (peer : Peer) (places : List ℕ) (journal more : List Told) → WasAnswered store first last peer places journal → WasAnswered store first last peer places (journal ++ more)
   was_longer (Http peer) places journal more is = answered_longer (Http peer) places journal more is
   was_longer (Pages peer) places journal more is = answered_longer (Pages peer) places journal more is
-  was_longer (Lines peer) places journal more (waits, is) = (waits, record { calls = is.calls; came = is.came; goes = is.goes; answered = lines_longer (side_of (lines_of peer)) is.calls 0 places journal more is.answered })
+  was_longer (Lines peer) places journal more (waits, is) = (waits, record { calls = is.calls; lines = is.lines; came = is.came; goes = is.goes; answered = lines_longer (side_of (lines_of peer)) is.calls 0 places journal more is.answered })
   was_longer (Last peer) places journal more is = answered_longer (Last peer) places journal more is
 
   pub was_answered : (peer : Peer) (places : List ℕ) (journal : List Told) → IsAnswered store first last peer places journal → WasAnswered store first last peer places journal
@@ -334,7 +335,7 @@ module _ {S : Type 0} (store : Ghosts S) (before : Served S) (fresh : IsFresh be
   backup_told : (shares : Bool) (side : Side) (call : LineCall) (old new : Served S) → BacksUp store side call.0 old call.1 new → LineTold shares side call old new
   unfolding background_only
   backup_told shares side call old new is = subst (λ (served : Served S). LineTold shares side call old served) (sym is.next.same) (
-    background_only store old (record old.background { backup = backup_of new }),
+    background_only store old (record old.background { backup = backup_of new }) refl,
     λ journal is_journal calls its told later. inr (inr (inl (record { line = is.line; ended = is.ended; operator = is.operator; asked = is.asked; said = is.said; told = is.told; says = is.says }), none_told shares side calls journal told its later)),
   )
 
@@ -498,6 +499,7 @@ module _ {S : Type 0} (store : Ghosts S) (before : Served S) (fresh : IsFresh be
         told.0,
         λ places journal is_journal had. record {
           calls = had.calls ++ is.calls;
+          lines = are_lines_then (IsOver was) (IsOver now) had.calls is.calls had.lines (λ over. (none_later store ends ends2 was now waits old new is over).0) (λ over. (none_later store ends ends2 was now waits old new is over).1) is.lines;
           came =
               is.received ∙ ap (λ x. x ++ is.came) had.came ∙ append_assoc (taken had.calls) (input_of was) is.came ∙ ap (λ x. taken had.calls ++ x) is.input
               ∙ sym (append_assoc (taken had.calls) (taken is.calls) (input_of now)) ∙ ap (λ x. x ++ input_of now) (sym (flat_map-append (λ (call : LineCall). call.0) had.calls is.calls));

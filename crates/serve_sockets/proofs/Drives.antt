@@ -8,7 +8,7 @@ use Rattle.std.proofs.lemmas.Bool.{true≢false}
 use Rattle.http_server.specs.Exchange.{Call, Chain}
 use Rattle.serve_peers.specs.ProofServices.{one_more, stays}
 use Rattle.serve_peers.proofs.Journaling.{chain, leads_applied, leads_then, line_chain}
-use Rattle.serve_peers.specs.Journals.{Notes, Round, Told, applied, by_themselves, open_of, rounds_of, shares_of, store_of}
+use Rattle.serve_peers.specs.Journals.{Notes, Round, Told, applied, by_themselves, needs_password_of, open_of, rounds_of, shares_of, store_of}
 use Rattle.serve_peers.specs.Applying.{DoesEach, DoesOne, Leads, OnlyLooks}
 use Rattle.serve_peers.specs.Turns.{Continues}
 use Rattle.serve_peers.specs.Rounds.{AllSettle, Begins, Follows, IsRefused}
@@ -74,12 +74,41 @@ module _ {S : Type 0} (store : Ghosts S) where
   turn_shares true turn next guest left old new turns = ap (λ (served : Served S). shares_of served) turns.same ∙ (turn_continues in_round in_round next _ _ (record old { asked = guest.asked }) turns.left turns.takes).shares
 
   pub serves_shares : (was now : Option Guest) (old new : Served S) → Serves store was now old new → shares_of new ≡ shares_of old
-  serves_shares None now old new serves = ap (λ (served : Served S). shares_of served) serves.1.1
-  serves_shares (Some guest) now old new serves =
-      elim serves [
-        | inl driven ↦ turn_shares _ driven.turn driven.next guest driven.left driven.begun new driven.driven ∙ ap (λ (served : Served S). shares_of served) driven.moment.1
-        | inr gone ↦ ap (λ (served : Served S). shares_of served) gone.1
-      ]
+  serves_shares None now old new (told, vacant) = ap (λ (served : Served S). shares_of served) vacant.1.1
+  serves_shares (Some guest) now old new (Some told, (driven, at, by)) = turn_shares _ driven.turn driven.next guest driven.left driven.begun new driven.driven ∙ ap (λ (served : Served S). shares_of served) driven.moment.1
+  serves_shares (Some guest) now old new (None, gone) = ap (λ (served : Served S). shares_of served) gone.1
+
+  -- ---- whether pages take a file without a password stays
+
+  turn_pin : (shares : Bool) (turn : Turn) (next : Next) (guest left : Guest) (old new : Served S) → Turns store shares turn next guest left old new → needs_password_of new ≡ needs_password_of old
+  turn_pin false turn next guest left old new turns = (turn_continues of_socket of_socket next _ _ turns.mid new turns.takes).needs_password ∙ (again_continues _ _ _ _ old turns.mid turns.again).needs_password
+  turn_pin true turn next guest left old new turns = ap (λ (served : Served S). needs_password_of served) turns.same ∙ (turn_continues in_round in_round next _ _ (record old { asked = guest.asked }) turns.left turns.takes).needs_password
+
+  serves_pin : (was now : Option Guest) (old new : Served S) → Serves store was now old new → needs_password_of new ≡ needs_password_of old
+  serves_pin None now old new (told, vacant) = ap (λ (served : Served S). needs_password_of served) vacant.1.1
+  serves_pin (Some guest) now old new (Some told, (driven, at, by)) = turn_pin _ driven.turn driven.next guest driven.left driven.begun new driven.driven ∙ ap (λ (served : Served S). needs_password_of served) driven.moment.1
+  serves_pin (Some guest) now old new (None, gone) = ap (λ (served : Served S). needs_password_of served) gone.1
+
+  step_pin : (step : Step) (a b : Slab Guest) (old new : Served S) → Does store step a b old new → needs_password_of new ≡ needs_password_of old
+  step_pin Keep a b old new does = does.1.0.needs_password
+  step_pin Begin a b old new does = elim does.2 [
+    | inl under_way ↦ ap (λ (served : Served S). needs_password_of served) under_way.1
+    | inr (inl begun) ↦ ap (λ (served : Served S). needs_password_of served) begun.same
+    | inr (inr not_begun) ↦ ap (λ (served : Served S). needs_password_of served) not_begun.same
+  ]
+  step_pin (Ask key) a b old new does = serves_pin _ _ old new does.1
+  step_pin Settle a b old new does = elim does.1 [
+    | inl none ↦ ap (λ (served : Served S). needs_password_of served) none.1
+    | inr settled ↦ ap (λ (served : Served S). needs_password_of served) settled.same
+  ]
+  step_pin (Serve key) a b old new does = serves_pin _ _ old new does.1
+  step_pin (Drop key) a b old new does = ap (λ (served : Served S). needs_password_of served) does.2
+  step_pin Enter a b old new does = ap (λ (served : Served S). needs_password_of served) does.1
+  step_pin Leave a b old new does = ap (λ (served : Served S). needs_password_of served) does.1
+
+  pub same_pin : (steps : List Step) (a b : Slab Guest) (old new : Served S) → DoesAll store steps a b old new → needs_password_of new ≡ needs_password_of old
+  same_pin [] a b old new does = ap (λ (served : Served S). needs_password_of served) does.1
+  same_pin (step ∷ steps) a b old new does = same_pin steps does.0 b does.1 new does.3 ∙ step_pin step a does.0 old does.1 does.2
 
   -- ---- the disk was honest before
 
@@ -110,9 +139,9 @@ module _ {S : Type 0} (store : Ghosts S) where
       continues_clean begun turns.left (turn_continues in_round in_round next _ _ begun turns.left turns.takes) (same_clean turns.left new (ap (λ (served : Served S). store_of served) turns.same) clean)
 
   serves_clean : (was now : Option Guest) (old new : Served S) → Serves store was now old new → IsClean new → IsClean old
-  serves_clean None now old new serves clean = same_clean old new (ap (λ (served : Served S). store_of served) serves.1.1) clean
-  serves_clean (Some guest) now old new (inl driven) clean = same_clean old driven.begun (ap (λ (served : Served S). store_of served) driven.moment.1) (turn_clean _ driven.turn driven.next guest driven.left driven.begun new driven.driven clean)
-  serves_clean (Some guest) now old new (inr gone) clean = same_clean old new (ap (λ (served : Served S). store_of served) gone.1) clean
+  serves_clean None now old new (told, vacant) clean = same_clean old new (ap (λ (served : Served S). store_of served) vacant.1.1) clean
+  serves_clean (Some guest) now old new (Some told, (driven, at, by)) clean = same_clean old driven.begun (ap (λ (served : Served S). store_of served) driven.moment.1) (turn_clean _ driven.turn driven.next guest driven.left driven.begun new driven.driven clean)
+  serves_clean (Some guest) now old new (None, gone) clean = same_clean old new (ap (λ (served : Served S). store_of served) gone.1) clean
 
   pub step_clean : (step : Step) (a b : Slab Guest) (old new : Served S) → Does store step a b old new → IsClean new → IsClean old
   step_clean Keep a b old new does clean = continues_clean old new does.1.0 clean
@@ -242,14 +271,11 @@ module _ {S : Type 0} (store : Ghosts S) where
       as_served old turns.left new on (like turns.left new (record turns.left { asked = None }) turns.same (record { rounds = refl; left = refl; tables = refl; shares = refl }))
 
   serves_served : (was now : Option Guest) (old mid new : Served S) → IsServed old mid → Serves store was now mid new → IsServed old new
-  serves_served None now old mid new is serves = as_served old mid new is (like mid new (record mid { moment = serves.1.0; spare = spare_of new }) serves.1.1 (record { rounds = refl; left = refl; tables = refl; shares = refl }))
-  serves_served (Some guest) now old mid new is serves =
-      elim serves [
-        | inl driven ↦
-            let begun = as_served old mid driven.begun is (like mid driven.begun (record mid { moment = driven.moment.0; spare = spare_of driven.begun }) driven.moment.1 (record { rounds = refl; left = refl; tables = refl; shares = refl })) in
-            turn_served _ driven.turn driven.next guest driven.left old driven.begun new begun driven.driven
-        | inr gone ↦ subst (λ (served : Served S). IsServed old served) (sym gone.1) is
-      ]
+  serves_served None now old mid new is (told, vacant) = as_served old mid new is (like mid new (record mid { moment = vacant.1.0; spare = spare_of new }) vacant.1.1 (record { rounds = refl; left = refl; tables = refl; shares = refl }))
+  serves_served (Some guest) now old mid new is (Some told, (driven, at, by)) =
+      let begun = as_served old mid driven.begun is (like mid driven.begun (record mid { moment = driven.moment.0; spare = spare_of driven.begun }) driven.moment.1 (record { rounds = refl; left = refl; tables = refl; shares = refl })) in
+      turn_served _ driven.turn driven.next guest driven.left old driven.begun new begun driven.driven
+  serves_served (Some guest) now old mid new is (None, gone) = subst (λ (served : Served S). IsServed old served) (sym gone.1) is
 
   refused_looks : (old new : Held S) → IsRefused store old new → OnlyLooks store old new
   refused_looks old new refused = record { unchanged = λ clean has shown. refused.unchanged clean shown; connection = refused.connection }

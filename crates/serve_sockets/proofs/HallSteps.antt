@@ -20,8 +20,9 @@ use Rattle.serve_peers.specs.declared.step.Next.TheVariants.{Close}
 use Rattle.serve_peers.specs.declared.step.Turn.{Turn}
 use Rattle.serve_sockets.proofs.Drives.{serves_shares}
 use Rattle.serve_sockets.specs.Guests.{CameBy, IsNew, NobodyWaits, Turns, asked_in, is_waiting, peer_of, turns_of}
-use Rattle.serve_sockets.specs.Halls.{AreOthersKept, Ask, Begin, BeginsRound, Does, DoesAll, Drop, Enter, GoesOn, IsAtMoment, IsDriven, IsServedFirst, IsSpared, Keep, Leave, MayGo, MayLeave, OnlyAsk, OnlyEnter, OnlyLeave, OnlyServe, Serve, Serves, ServesEach, ServesThose, Settle, SettlesRound, SharesRound, StaysAfter, Step, key_told, keys_told}
+use Rattle.serve_sockets.specs.Halls.{AreOthersKept, Ask, Begin, BeginsRound, Does, DoesAll, Drop, Enter, GoesOn, IsAtMoment, IsDriven, IsServedFirst, IsSpared, Keep, Leave, MayGo, MayLeave, OnlyAsk, OnlyEnter, OnlyLeave, OnlyServe, Serve, Serves, ServesAt, ServesEach, ServesThose, Settle, SettlesRound, SharesRound, StaysAfter, Step, key_told, keys_told}
 use Rattle.serve_sockets.specs.declared.doors.Speech.{Speech}
+use Rattle.serve_sockets.specs.declared.clock.Reading.{Reading}
 use Rattle.serve_sockets.specs.declared.guest.Guest.{Guest}
 use Rattle.serve_sockets.specs.declared.guest.Peer.{Peer}
 use Rattle.serve_sockets.specs.declared.hall.TheConstants.{MOST_DOORS}
@@ -240,15 +241,16 @@ module _ {S : Type 0} (store : Ghosts S) where
 
   -- ---- who has a key
 
-  pub let_go : (was now : Option Guest) (served : Served S) → now ≡ None → Serves store was now served served
+  pub let_go : (was now : Option Guest) (served : Served S) → now ≡ None → ServesAt store was None now served served
   let_go None now served gone = (gone, (moment_of served, refl))
-  let_go (Some guest) now served gone = inr (gone, refl)
+  let_go (Some guest) now served gone = (gone, refl)
 
-  pub nobody : (was now : Option Guest) (old new : Served S) → was ≡ None → now ≡ None → IsAtMoment old new → Serves store was now old new
-  nobody was now old new vacant is moment = subst (λ (slot : Option Guest). Serves store slot now old new) (sym vacant) (is, moment)
+  pub nobody : (was : Option Guest) (told : Option Reading) (now : Option Guest) (old new : Served S) → was ≡ None → now ≡ None → IsAtMoment old new → ServesAt store was told now old new
+  nobody was told now old new vacant is moment = subst (λ (slot : Option Guest). ServesAt store slot told now old new) (sym vacant) (is, moment)
 
-  pub had_turn : (was now : Option Guest) (guest : Guest) (old new : Served S) → was ≡ Some guest → IsDriven store guest now old new → Serves store was now old new
-  had_turn was now guest old new there is = subst (λ (slot : Option Guest). Serves store slot now old new) (sym there) (inl is)
+  pub had_turn : (was : Option Guest) (told : Reading) (now : Option Guest) (guest : Guest) (old new : Served S) → was ≡ Some guest → (driven : IsDriven store guest now old new) → moment_of driven.begun ≡ told.moment → driven.turn.ticks ≡ told.ticks
+      → ServesAt store was (Some told) now old new
+  had_turn was told now guest old new there driven moment ticks = subst (λ (slot : Option Guest). ServesAt store slot (Some told) now old new) (sym there) (driven, moment, ticks)
 
   -- ---- steps
 
@@ -365,17 +367,14 @@ module _ {S : Type 0} (store : Ghosts S) where
 
   -- who is served where no round is under way does not wait
   pub served_waits_not : (was now : Option Guest) (old new : Served S) → shares_of old ≡ false → Serves store was now old new → is_waiting now ≡ false
-  served_waits_not None now old new alone serves = ap is_waiting serves.0
-  served_waits_not (Some guest) now old new alone serves =
-      elim serves [
-        | inl driven ↦
-            let begun = ap (λ (served : Served S). shares_of served) driven.moment.1 ∙ alone in
-            let heard = turn_heard (shares_of driven.begun) driven.turn driven.next guest driven.left driven.begun new begun driven.driven in
-            elim driven.stays [
-              | inl kept ↦ ap is_waiting kept.1 ∙ waits_not driven.left heard
-              | inr gone ↦ ap is_waiting gone.1
-            ]
-        | inr gone ↦ ap is_waiting gone.0
+  served_waits_not None now old new alone (told, vacant) = ap is_waiting vacant.0
+  served_waits_not (Some guest) now old new alone (None, gone) = ap is_waiting gone.0
+  served_waits_not (Some guest) now old new alone (Some told, (driven, at, by)) =
+      let begun = ap (λ (served : Served S). shares_of served) driven.moment.1 ∙ alone in
+      let heard = turn_heard (shares_of driven.begun) driven.turn driven.next guest driven.left driven.begun new begun driven.driven in
+      elim driven.stays [
+        | inl kept ↦ ap is_waiting kept.1 ∙ waits_not driven.left heard
+        | inr gone ↦ ap is_waiting gone.1
       ]
 
   -- nobody begins to wait

@@ -105,9 +105,9 @@ module _ {S : Type 0} (store : Ghosts S) where
       without_asked turns.left new turns.same entry then_stands
 
   serves_keeps : (was now : Option Guest) (old new : Served S) → Serves store was now old new → Keeps old new
-  serves_keeps None now old new serves = moment_keeps old new serves.1
-  serves_keeps (Some guest) now old new (inl driven) = λ entry stands. turn_keeps (shares_of driven.begun) driven.turn driven.next guest driven.left driven.begun new driven.driven entry (moment_keeps old driven.begun driven.moment entry stands)
-  serves_keeps (Some guest) now old new (inr gone) = same_keeps old new gone.1
+  serves_keeps None now old new (told, vacant) = moment_keeps old new vacant.1
+  serves_keeps (Some guest) now old new (Some told, (driven, at, by)) = λ entry stands. turn_keeps (shares_of driven.begun) driven.turn driven.next guest driven.left driven.begun new driven.driven entry (moment_keeps old driven.begun driven.moment entry stands)
+  serves_keeps (Some guest) now old new (None, gone) = same_keeps old new gone.1
 
   -- what it asked before, and what it asks now, stands in the round that is under way
   asks_in_round : (guest left : Guest) (old mid : Served S) (more : List (Option Told)) → Notes true more (record old { asked = guest.asked }) mid → left.asked ≡ mid.asked → All (λ entry. Contains (entries_of (open_of old)) entry) (asked_in guest) → All (λ entry. Contains (entries_of (open_of mid)) entry) (asked_in left)
@@ -130,9 +130,9 @@ module _ {S : Type 0} (store : Ghosts S) where
       All-weaker (λ entry. StandsInRound (shares_of turns.left) entry turns.left) (λ entry. StandsInRound (shares_of new) entry new) (without_asked turns.left new turns.same) (asked_in left) still
 
   ask_hears : (was now : Option Guest) (old new : Served S) → shares_of old ≡ true → Serves store was now old new → Hears was old → Hears now new
-  ask_hears None now old new shared serves hears = hears_as None now new serves.0 tt
-  ask_hears (Some guest) now old new shared (inr gone) hears = hears_as None now new gone.0 tt
-  ask_hears (Some guest) now old new shared (inl driven) hears =
+  ask_hears None now old new shared (told, vacant) hears = hears_as None now new vacant.0 tt
+  ask_hears (Some guest) now old new shared (None, gone) hears = hears_as None now new gone.0 tt
+  ask_hears (Some guest) now old new shared (Some told, (driven, at, by)) hears =
       let begun = ap (λ (served : Served S). shares_of served) driven.moment.1 ∙ shared in
       let there = turn_hears (shares_of driven.begun) driven.turn driven.next guest driven.left driven.begun new begun begun driven.driven (hears_still (Some guest) old driven.begun (moment_keeps old driven.begun driven.moment) hears) in
       elim driven.stays [

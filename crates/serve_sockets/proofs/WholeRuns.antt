@@ -33,7 +33,7 @@ use Rattle.serve_peers.specs.declared.step.Next.{Next}
 use Rattle.serve_peers.specs.declared.step.Next.TheVariants.{Close}
 use Rattle.serve_peers.specs.declared.step.Turn.{Turn}
 use Rattle.serve_sockets.proofs.Answering.{answered_longer, none_there, places_from, stand_behind, turn_answered, turn_tells, was_answered, was_longer}
-use Rattle.serve_sockets.proofs.Drives.{IsClean, IsServed, again_continues, as_served, like, served_by, served_continues, serves_shares, step_clean, step_served, turn_continues}
+use Rattle.serve_sockets.proofs.Drives.{IsClean, IsServed, again_continues, as_served, like, same_pin, served_by, served_continues, serves_shares, step_clean, step_served, turn_continues}
 use Rattle.serve_sockets.proofs.VisitPlaces.{Grew, IsShared, Split, at_it, at_others, grew_by, grew_not, grew_then, grown_shared, left_shared, next_places, turned_shared}
 use Rattle.serve_sockets.proofs.Inquiring.{grown_alone, grown_by, journal_is, lives_on, runs_so}
 use Rattle.serve_sockets.specs.Places.{StandAt}
@@ -85,6 +85,7 @@ module _ {S : Type 0} (store : Ghosts S) (before : Served S) (fresh : IsFresh be
   new_lines : (whose : Side) (peer : LinePeer) (journal : List Told) → IsNewOf whose (lines_of peer) → HasAnswer (Lines peer) [] journal
   new_lines whose peer journal is = record {
     calls = [];
+    lines = tt;
     came = is.received ∙ sym is.input;
     goes = sym (λ i. is.sent i ++ is.output i);
     answered = refl;
@@ -277,9 +278,9 @@ module _ {S : Type 0} (store : Ghosts S) (before : Served S) (fresh : IsFresh be
   moment_on shares lost old new at = on_same shares lost old new (at_moment_keeps shares lost old new at) (at_moment_log shares old new at) (still_same old new (ap (λ (served : Served S). rounds_of served) at.1) (ap (λ (served : Served S). shares_of served) at.1))
 
   serves_on : (shares lost : Bool) (was now : Option Guest) (old new : Served S) → IsView shares lost old → Serves store was now old new → OnBy shares lost old new
-  serves_on shares lost None now old new view serves = moment_on shares lost old new serves.1
-  serves_on shares lost (Some guest) now old new view (inl driven) = on_then shares lost old driven.begun new (moment_on shares lost old driven.begun driven.moment) (turn_on (shares_of driven.begun) shares lost driven.turn driven.next guest driven.left driven.begun new (view_at_moment shares lost old driven.begun driven.moment view) driven.driven)
-  serves_on shares lost (Some guest) now old new view (inr gone) = on_same shares lost old new (same_keeps shares lost old new gone.1) (same_log shares old new gone.1) (still_is old new gone.1)
+  serves_on shares lost None now old new view (told, vacant) = moment_on shares lost old new vacant.1
+  serves_on shares lost (Some guest) now old new view (Some told, (driven, at, by)) = on_then shares lost old driven.begun new (moment_on shares lost old driven.begun driven.moment) (turn_on (shares_of driven.begun) shares lost driven.turn driven.next guest driven.left driven.begun new (view_at_moment shares lost old driven.begun driven.moment view) driven.driven)
+  serves_on shares lost (Some guest) now old new view (None, gone) = on_same shares lost old new (same_keeps shares lost old new gone.1) (same_log shares old new gone.1) (still_is old new gone.1)
 
   -- ---- what becomes of one
 
@@ -704,12 +705,12 @@ module _ {S : Type 0} (store : Ghosts S) (before : Served S) (fresh : IsFresh be
   by_serving : (step : Step) (shares lost : Bool) (was now : Option Guest) (had : List ℕ) (turns : Type 0) (old new : Served S) (serves : Serves store was now old new) → IsGoing shares lost was had old
       → ((guest : Guest) (driven : IsDriven store guest now old new) → Goes (asked_in guest) shares lost (peer_of guest) had driven.begun → Fate step shares lost (Some guest) (Some driven.left) now had turns (length (log_of shares driven.begun)) new)
       → Fate step shares lost was (left_by store was now old new serves) now had turns (length (log_of shares old)) new
-  by_serving step shares lost None now had turns old new serves going turned =
-      stays step shares lost None None now had turns (length (log_of shares old)) new (λ it place high low. omega (arith, high, low, ap length (at_moment_log shares old new serves.1))) (λ guest is none. not_both None guest refl is) (goes_as shares lost None now had new serves.0 going)
-  by_serving step shares lost (Some guest) now had turns old new (inr gone) going turned =
+  by_serving step shares lost None now had turns old new (told, vacant) going turned =
+      stays step shares lost None None now had turns (length (log_of shares old)) new (λ it place high low. omega (arith, high, low, ap length (at_moment_log shares old new vacant.1))) (λ guest is none. not_both None guest refl is) (goes_as shares lost None now had new vacant.0 going)
+  by_serving step shares lost (Some guest) now had turns old new (None, gone) going turned =
       goes step shares lost (Some guest) (Some guest) now had turns (length (log_of shares old)) new (λ it place high low. omega (arith, high, low, ap length (same_log shares old new gone.1))) gone.0 (subst (λ (served : Served S). OverNow (Some guest) now had (log_of shares served)) (sym gone.1) (gone_over shares lost guest now had old gone.0 going))
       (subst (λ (served : Served S). HeardOr shares lost (Some guest) now had (log_of shares served)) (sym gone.1) (gone_or shares lost guest now had old going))
-  by_serving step shares lost (Some guest) now had turns old new (inl driven) going turned =
+  by_serving step shares lost (Some guest) now had turns old new (Some told, (driven, at, by)) going turned =
       subst (λ (end : ℕ). Fate step shares lost (Some guest) (Some driven.left) now had turns end new) (ap length (at_moment_log shares old driven.begun driven.moment))
       (turned guest driven (at_moment_keeps shares lost old driven.begun driven.moment (asked_in guest) (peer_of guest) had going))
 
@@ -926,9 +927,9 @@ module _ {S : Type 0} (store : Ghosts S) (before : Served S) (fresh : IsFresh be
   turn_lost true turn next guest left old new turns = ap (λ (served : Served S). is_lost_of served) turns.same ∙ (turn_continues store in_round in_round next _ _ (record old { asked = guest.asked }) turns.left turns.takes).is_lost
 
   serves_lost : (was now : Option Guest) (old new : Served S) → Serves store was now old new → is_lost_of new ≡ is_lost_of old
-  serves_lost None now old new serves = ap (λ (served : Served S). is_lost_of served) serves.1.1
-  serves_lost (Some guest) now old new (inl driven) = turn_lost _ driven.turn driven.next guest driven.left driven.begun new driven.driven ∙ ap (λ (served : Served S). is_lost_of served) driven.moment.1
-  serves_lost (Some guest) now old new (inr gone) = ap (λ (served : Served S). is_lost_of served) gone.1
+  serves_lost None now old new (told, vacant) = ap (λ (served : Served S). is_lost_of served) vacant.1.1
+  serves_lost (Some guest) now old new (Some told, (driven, at, by)) = turn_lost _ driven.turn driven.next guest driven.left driven.begun new driven.driven ∙ ap (λ (served : Served S). is_lost_of served) driven.moment.1
+  serves_lost (Some guest) now old new (None, gone) = ap (λ (served : Served S). is_lost_of served) gone.1
 
   keep_log : (shares lost : Bool) (old new : Served S) → IsView shares lost old → OnlyKeeps store old new → log_of shares new ≡ log_of shares old
   keep_log shares lost old new (inl view) keeps = noted_log shares keeps.0.more old new (subst (λ b. Notes b keeps.0.more old new) (sym view.0) keeps.0.notes) ∙ ap (λ x. log_of shares old ++ x) keeps.1 ∙ append-nil (log_of shares old)
@@ -1334,9 +1335,9 @@ module _ {S : Type 0} (store : Ghosts S) (before : Served S) (fresh : IsFresh be
   not_closed next left now (inr gone) there = absurd (there gone.1)
 
   tells_then : (shares : Bool) (was now : Option Guest) (old new : Served S) → IsServed store before old → WasClean new → shares_of old ≡ shares → (serves : Serves store was now old new) → TellsThen store (store_of before) last shares was (left_by store was now old new serves) now old new
-  tells_then shares None now old new served clean same serves = tt
-  tells_then shares (Some guest) now old new served clean same (inr gone) = nothing_now shares (now ≢ None) (peer_of guest) old new
-  tells_then shares (Some guest) now old new served clean same (inl driven) =
+  tells_then shares None now old new served clean same (told, vacant) = tt
+  tells_then shares (Some guest) now old new served clean same (None, gone) = nothing_now shares (now ≢ None) (peer_of guest) old new
+  tells_then shares (Some guest) now old new served clean same (Some reading, (driven, at, by)) =
       let there = shares_begun guest now old new driven ∙ same in
       let turned : Turns store shares driven.turn driven.next guest driven.left driven.begun new = subst (λ b. Turns store b driven.turn driven.next guest driven.left driven.begun new) there driven.driven in
       let told = turn_tells_now shares driven.turn driven.next guest driven.left driven.begun new (served_begun guest now old new served driven) clean there turned in
@@ -1473,13 +1474,13 @@ module _ {S : Type 0} (store : Ghosts S) where
   is_none_and_some slot guest none some = let no : None ≡ Some guest = sym none ∙ some in cc
 
   ends_turn : (was now : Option Guest) (guest : Guest) (old new : Served S) (serves : Serves store was now old new) → left_by store was now old new serves ≡ Some guest → now ≡ None → EndsTurn store was now old new serves
-  ends_turn None now guest old new serves is none = is_none_and_some None guest refl is
-  ends_turn (Some was) now guest old new (inl driven) is none =
+  ends_turn None now guest old new (told, vacant) is none = is_none_and_some None guest refl is
+  ends_turn (Some was) now guest old new (Some told, (driven, at, by)) is none =
       elim driven.stays [
         | inl kept ↦ absurd (is_none_and_some now driven.left none kept.1)
         | inr gone ↦ gone.0
       ]
-  ends_turn (Some was) now guest old new (inr gone) is none = tt
+  ends_turn (Some was) now guest old new (None, gone) is none = tt
 
   ends_own : (turner key : ℕ) (guest : Guest) (a b : Slab Guest) (old new : Served S) (serves : Serves store (get a turner) (get b turner) old new) → AreOthersKept turner a b → left_of_turn store turner key a b old new serves ≡ Some guest → get b key ≡ None → (turner ≡ key) × EndsTurn store (get a turner) (get b turner) old new serves
   ends_own turner key guest a b old new serves others is none =
@@ -1569,6 +1570,7 @@ module _ {S : Type 0} (store : Ghosts S) where
           runs = runs_so store before fresh after served;
           lives = lives_on store before fresh after served;
           found = found_again store before fresh last lasts after served;
+          needs_password = same_pin store goes.steps goes.first guests before after goes.does;
         },
         refl,
       )

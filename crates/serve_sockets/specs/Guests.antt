@@ -74,10 +74,12 @@ of_socket = (None, None)
 abbrev pub in_round : Ends
 in_round = (None, Some [])
 
--- of a client's request more has come than this, in bytes of its body
+-- of a client's request more has come than this, in bytes of its body, and no answer waits to go to it
 abbrev pub HasSentMore : (most : ℕ) → Peer → Type 0
-HasSentMore most (Http peer) = most + longest_head < http.came_of peer
-HasSentMore most (Pages peer) = most + longest_head < http.came_of peer
+HasSentMore most (Http peer) =
+    (most + longest_head < http.came_of peer) × ¬ (http.HasAnswer peer)
+HasSentMore most (Pages peer) =
+    (most + longest_head < http.came_of peer) × ¬ (http.HasAnswer peer)
 HasSentMore most _ = ⊥
 
 -- it is told that there is no space, and nothing more
@@ -131,6 +133,8 @@ module _ {S : Type 0} (store : Ghosts S) where
     pub rests : next ≡ Wait → IsAtRest (peer_of after)
     pub holds : next ≡ HeldBack → IsFalse turn.has_memory
     pub turns : turns_of after ≡ turns_of before ++ (turn, next) ∷ []
+    pub socket : after.stream ≡ before.stream
+    pub door : after.door ≡ before.door
 
   -- The same in a round, of which nothing goes to it. What it asks is kept with it, for its turn
   -- once the round is settled; it begins with what it asked in the same round before.
@@ -143,6 +147,8 @@ module _ {S : Type 0} (store : Ghosts S) where
     pub same : new ≡ record left { asked = None }
     pub holds : next ≡ HeldBack → IsFalse turn.has_memory
     pub turns : turns_of after ≡ turns_of before ++ (turn, next) ∷ []
+    pub socket : after.stream ≡ before.stream
+    pub door : after.door ≡ before.door
 
   abbrev pub Turns : (shares : Bool) (turn : Turn) (next : Next) (before after : Guest)
       (old new : Served S) → Type 0

@@ -7,7 +7,7 @@ use Rattle.mio.specs.declared.event.event.Event.{Event}
 use Rattle.mio.specs.declared.token.Token.{Token}
 use Rattle.slab.specs.Slab.{Slab, SameValues, get}
 use Rattle.sqlite_trees.specs.declared.store.Store.{Ghosts}
-use Rattle.serve_peers.specs.Journals.{shares_of}
+use Rattle.serve_peers.specs.Journals.{moment_of, shares_of}
 use Rattle.serve_peers.specs.Keeping.{OnlyKeeps}
 use Rattle.serve_peers.specs.Rounds.{IsBegun, IsNotBegun, IsSettled}
 use Rattle.serve_peers.specs.Space.{spare_of}
@@ -16,6 +16,7 @@ use Rattle.serve_peers.specs.declared.step.Next.{Next}
 use Rattle.serve_peers.specs.declared.step.Next.TheVariants as next_is
 use Rattle.serve_peers.specs.declared.step.Turn.{Turn}
 use Rattle.serve_sockets.specs.Guests.{IsNew, NobodyWaits, Turns, is_waiting}
+use Rattle.serve_sockets.specs.declared.clock.Reading.{Reading}
 use Rattle.serve_sockets.specs.declared.guest.Guest.{Guest}
 use Rattle.serve_sockets.specs.declared.hall.Hall.{Hall}
 use Rattle.serve_sockets.specs.declared.hall.TheConstants.{MOST_DOORS}
@@ -87,11 +88,19 @@ module _ {S : Type 0} (store : Ghosts S) where
     pub driven : Turns store (shares_of begun) turn next guest left begun new
     pub stays : StaysAfter next (Some left) now
 
-  -- Who has the key has a turn. Nobody has it where nobody has the key; and where a clock tells
-  -- nothing who has it is let go.
+  -- Who has the key has a turn, at the moment and by the ticks that the clocks told. Nobody has it
+  -- where nobody has the key; and where a clock told nothing who has it is let go.
+  abbrev pub ServesAt :
+      (was : Option Guest) (told : Option Reading) (now : Option Guest) (old new : Served S)
+      → Type 0
+  ServesAt None told now old new = (now ≡ None) × IsAtMoment old new
+  ServesAt (Some guest) (Some told) now old new = (driven : IsDriven guest now old new)
+      × (moment_of driven.begun ≡ told.moment) × (driven.turn.ticks ≡ told.ticks)
+  ServesAt (Some guest) None now old new = (now ≡ None) × (new ≡ old)
+
+  -- whatever the clocks told
   abbrev pub Serves : (was now : Option Guest) (old new : Served S) → Type 0
-  Serves None now old new = (now ≡ None) × IsAtMoment old new
-  Serves (Some guest) now old new = IsDriven guest now old new ⊎ ((now ≡ None) × (new ≡ old))
+  Serves was now old new = (told : Option Reading) × ServesAt was told now old new
 
 -- ---- one thing after another
 

@@ -12,7 +12,7 @@ use Rattle.store_rounds.specs.declared.fault.StoreFault.{StoreFault}
 use Rattle.serve_peers.specs.Backups.{backup_text}
 use Rattle.serve_peers.specs.declared.backup.BackupTold.{BackupTold}
 use Rattle.serve_peers.specs.Journals.{Told}
-use Rattle.serve_peers.specs.LinePeers.{LineCall, bytes_told, taken}
+use Rattle.serve_peers.specs.LinePeers.{AreLines, IsOver, LineCall, bytes_told, taken}
 use Rattle.serve_peers.specs.Lines.{IsEntryOf, IsRefusal, MayAsk, grammar_of, input_of, output_of, received_of, sent_of, side_of}
 use Rattle.serve_peers.specs.LineTexts.{answer_text, line_text}
 use Rattle.serve_peers.specs.OwnDevices.{is_own}
@@ -103,10 +103,12 @@ module _ {S : Type 0} (store : Ghosts S) (first last : Held S) where
     pub answered : AnswersLinesNow shares (side_of before) calls long places journal
 
   -- All that came are these lines, and what is no whole line yet; all that went, and what waits, is
-  -- what is told of them, in order.
+  -- what is told of them, in order. Each has one answer, and is one line; where nothing more comes, the
+  -- last may be a rest, which is told to be none.
   pub record HasAnsweredLines (connection : LineConnection) (waits : List ℕ) (places : List ℕ)
       (journal : List Told) : Type 0 where
     pub calls : List LineCall
+    pub lines : AreLines (IsOver connection) calls
     pub came : received_of connection ≡ taken calls ++ input_of connection
     pub goes : bytes_told calls ≡ sent_of connection ++ waits
     pub answered : AnswersLineCalls (side_of connection) calls 0 places journal

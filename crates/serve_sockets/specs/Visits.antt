@@ -9,7 +9,6 @@ use Rattle.serve_sockets.specs.Halls.{Ask, Does, DoesAll, Drop, Leave, MayLeave,
 use Rattle.serve_sockets.specs.declared.guest.Guest.{Guest}
 use Rattle.serve_sockets.specs.declared.guest.Peer.{Peer}
 use Rattle.serve_sockets.specs.declared.guest.Peer.TheVariants.{Last}
-use mathlib.Core.Logic.{inl, inr}
 
 -- A visit: of who has the key and is there; of who had it and was let go in the step of this
 -- number; or of who had it up to that step, and went on from there as another.
@@ -45,8 +44,8 @@ module _ {S : Type 0} (store : Ghosts S) where
   abbrev pub left_by : (was now : Option Guest) (old new : Served S) → Serves store was now old new
       → Option Guest
   left_by None now old new serves = None
-  left_by (Some guest) now old new (inl driven) = Some driven.left
-  left_by (Some guest) now old new (inr gone) = Some guest
+  left_by (Some guest) now old new (Some told, (driven, at, by)) = Some driven.left
+  left_by (Some guest) now old new (None, gone) = Some guest
 
   -- who had the key, as somebody's turn left it
   abbrev pub left_of_turn : (turner key : ℕ) (old new : Slab Guest) (before after : Served S)
@@ -95,8 +94,8 @@ module _ {S : Type 0} (store : Ghosts S) where
   abbrev pub EndsTurn : (was now : Option Guest) (old new : Served S) → Serves store was now old new
       → Type 0
   EndsTurn None now old new serves = ⊥
-  EndsTurn (Some guest) now old new (inl driven) = MayLeave driven.next
-  EndsTurn (Some guest) now old new (inr gone) = ⊤
+  EndsTurn (Some guest) now old new (Some told, (driven, at, by)) = MayLeave driven.next
+  EndsTurn (Some guest) now old new (None, gone) = ⊤
 
   -- Who has the key may be let go in such a step: in its own turn; by itself, where it hardly reads
   -- what is held for it; or with others, where their time is over.

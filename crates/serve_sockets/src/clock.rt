@@ -4,6 +4,15 @@
 use std::io;
 use std::time::{Clock, SystemTime, UNIX_EPOCH};
 
+/// What the clocks told as a peer's turn began.
+#[derive(Clone, Copy)]
+pub(crate) struct Reading {
+    /// The moment of events, in seconds since 1970-01-01T00:00:00Z.
+    pub(crate) moment: u64,
+    /// The ticks of deadlines, in milliseconds.
+    pub(crate) ticks: u64,
+}
+
 /// The whole seconds since 1970-01-01T00:00:00Z, where the clock can be read and stands after
 /// that.
 pub fn moment(clock: &impl Clock) -> Option<u64> {

@@ -173,6 +173,8 @@ impl Guest {
             (peer_of self.old) (peer_of self.new) served.old served.new }
         ensures asked { asked_in self.new ≡ [] }
         ensures turns { turns_of self.new ≡ turns_of self.old }
+        ensures socket { self.new.stream ≡ self.old.stream }
+        ensures door { self.new.door ≡ self.old.door }
         ensures alone { shares_of served.new ≡ false }
     {
         let Some(asked) = self.asked.take() else {
@@ -192,6 +194,8 @@ impl Guest {
         ensures same { served.new ≡ served.old }
         ensures asked { asked_in self.new ≡ asked_in self.old }
         ensures turns { turns_of self.new ≡ turns_of self.old }
+        ensures socket { self.new.stream ≡ self.old.stream }
+        ensures door { self.new.door ≡ self.old.door }
     {
         if self.outgrows(served.takes()) {
             served.log_refusal(Refusal::NoSpace, b"-");

@@ -10,7 +10,7 @@ ghost use Rattle.serve_peers.specs.Rounds.{Follows};
 ghost use Rattle.serve_sockets.specs.Doors.{most_of};
 ghost use Rattle.serve_sockets.specs.Guests.{NobodyWaits};
 
-use crate::clock::{moment, ticks};
+use crate::clock::{Reading, moment, ticks};
 use crate::deadlines::TICK;
 use crate::doors::{Entrance, MOST_GUESTS, most_guests};
 use crate::guest::Guest;
@@ -277,7 +277,7 @@ fn too_many(words: &str) -> io::Error
 }
 
 impl Peers {
-    ghost use Rattle.serve_sockets.specs.Halls.{AreOthersKept, MayLeave, Serves, ServesEach, StaysAfter, key_of, keys_told};
+    ghost use Rattle.serve_sockets.specs.Halls.{AreOthersKept, MayLeave, Serves, ServesAt, ServesEach, StaysAfter, key_of, keys_told};
 
     /// The ticks that deadlines go by, after a look at the clock.
     pub(crate) fn ticks(&mut self, clock: &impl Clock) -> io::Result<u64>
@@ -357,10 +357,7 @@ impl Peers {
         }
     }
 
-    /// Gives the guest of the key a turn, at the clock's moment, and drops it where its connection
-    /// is over. All others stay as they are. Before that it takes a piece of the disk for the kept
-    /// space, where that is not whole. `is_last`: the system may have told that the peer sends no
-    /// more.
+    /// Gives the guest of the key a turn, at what the clocks tell now.
     pub(crate) fn serve<S: Alter>(
         &mut self,
         clock: &impl Clock,
@@ -372,7 +369,35 @@ impl Peers {
             served.old served.new }
         ensures others { AreOthersKept key self.old.guests self.new.guests }
     {
-        let (Some(moment), Ok(ticks)) = (moment(clock), self.ticks(clock)) else {
+        let told = self.read_clocks(clock);
+        self.serve_at(told, key, served, is_last);
+    }
+
+    /// What both clocks tell, or None where one of them tells nothing.
+    fn read_clocks(&mut self, clock: &impl Clock) -> Option<Reading>
+        ensures { self.new.guests ≡ self.old.guests }
+    {
+        let moment = moment(clock)?;
+        let ticks = self.ticks(clock).ok()?;
+        Some(Reading { moment, ticks })
+    }
+
+    /// Gives the guest of the key a turn, at what the clocks told, and drops it where its connection
+    /// is over, or they told nothing. All others stay as they are. Before that it takes a piece of
+    /// the disk for the kept space, where that is not whole. `is_last`: the system may have told
+    /// that the peer sends no more.
+    fn serve_at<S: Alter>(
+        &mut self,
+        told: Option<Reading>,
+        key: usize,
+        served: &mut Served<S>,
+        is_last: bool,
+    )
+        ensures serves { ServesAt S.Store (get self.old.guests key) told (get self.new.guests key)
+            served.old served.new }
+        ensures others { AreOthersKept key self.old.guests self.new.guests }
+    {
+        let Some(Reading { moment, ticks }) = told else {
             self.close(key);
             return;
         };

@@ -1,5 +1,5 @@
 use Rattle.std.proofs.Common.{◌≡◌, false}
-use Rattle.room_serve.proofs.Carried.{CarriesOutTo}
+use Rattle.room_serve.proofs.Carried.{HasCalled}
 use Rattle.room_serve.specs.Wires.{wire_has_ended, reader_of, writer_of}
 use Rattle.cli_program.proofs.listening.serve_messages.Given as goal
 
@@ -8,5 +8,5 @@ invariant-messages g l = record {
   going : wire_has_ended l.wire ≡ false;
   reads : g.R.Source.failures (reader_of l.wire) ≡ 0;
   writes : g.W.Sink.failures (writer_of l.wire) ≡ 0;
-  carried : CarriesOutTo g.S.Store g.R.Source.left g.W.Sink.given l.fn.wire l.wire l.fn.store l.store;
+  called : HasCalled g.S.Store g.R.Source.left g.W.Sink.given l.served l.fn.wire l.wire l.fn.store l.store;
 }

@@ -1,6 +1,6 @@
 use Rattle.std.proofs.Common.{◌≡◌, ℕ, true, List, Some, take, rules, sym, ap, ◌∙◌, subst, inr}
 use Rattle.input_lines.specs.declared.lines.Grammar.{Grammar}
-use Rattle.serve_peers.specs.ProofServices.{stays}
+use Rattle.serve_peers.specs.ProofServices.{one_more, stays}
 use Rattle.serve_peers.proofs.LineEnds.{on_err, takes_entry}
 use Rattle.serve_peers.specs.Journals.{moment_of}
 use Rattle.serve_peers.specs.Lines.{IsEntryOf, grammar_of, input_of, line_end}
@@ -12,6 +12,12 @@ returns-in_default-clause-continues g c = stays g.S.Store c.args.served.now
 
 pub returns-in_err-entry-clause-continues : goal.returns-in_err-entry-clause-continues
 returns-in_err-entry-clause-continues g c = stays g.S.Store c.args.served.now
+
+pub returns-in_err-put_told-in-Some-2-clause-continues : goal.returns-in_err-put_told-in-Some-2-clause-continues
+returns-in_err-put_told-in-Some-2-clause-continues g c = one_more g.S.Store _ _ _ _ c.in_ok-told-in-Some-2.ensures.applies
+
+pub returns-in_ok-put_told-in-Some-2-clause-continues : goal.returns-in_ok-put_told-in-Some-2-clause-continues
+returns-in_ok-put_told-in-Some-2-clause-continues g c = one_more g.S.Store _ _ _ _ c.in_ok-told-in-Some-2.ensures.applies
 
 pub returns-in_err-put_told-in-Some-2-clause-lost : goal.returns-in_err-put_told-in-Some-2-clause-lost
 returns-in_err-put_told-in-Some-2-clause-lost g c =

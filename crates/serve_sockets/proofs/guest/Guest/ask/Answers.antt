@@ -1,4 +1,4 @@
-use Rattle.std.proofs.Common.{ap, subst, ◌∙◌}
+use Rattle.std.proofs.Common.{ap, refl, subst, ◌∙◌}
 use Rattle.serve_peers.specs.declared.served.Served.{Served}
 use Rattle.serve_sockets.specs.Guests.{TakesTurn, in_round}
 use Rattle.serve_sockets.proofs.guest.Guest.ask.Goals as goal
@@ -11,4 +11,6 @@ returns g c = record {
   same = c.take_asked.ensures.same;
   holds = c.drive-next.ensures.holds;
   turns = c.and-self.ensures;
+  socket = refl;
+  door = refl;
 }

@@ -11,4 +11,6 @@ returns g c = record {
   rests = c.drive-next.ensures.rests;
   holds = c.drive-next.ensures.holds;
   turns = c.and-self.ensures ∙ ap (λ turns. turns ++ (c.args.turn, c.drive-next.result) ∷ []) c.ask_again.ensures.turns;
+  socket = c.ask_again.ensures.socket;
+  door = c.ask_again.ensures.door;
 }

@@ -1,25 +1,15 @@
-use Rattle.std.proofs.Common.{Option, IsSome, ap, refl, subst, sym, ◌∙◌}
-use Rattle.slab.proofs.SlabLemmas.{Updates-with_value}
+use Rattle.std.proofs.Common.{ap, subst, ◌∙◌}
 use Rattle.slab.specs.Slab.{Slab, get}
-use Rattle.serve_peers.specs.Space.{spare_of}
-use Rattle.serve_peers.specs.declared.served.Served.{Served}
-use Rattle.serve_sockets.proofs.HallSteps.{had_turn, let_go}
-use Rattle.serve_sockets.specs.Halls.{StaysAfter}
+use Rattle.serve_sockets.specs.Halls.{ServesAt}
 use Rattle.serve_sockets.specs.declared.guest.Guest.{Guest}
 use Rattle.serve_sockets.proofs.hall.Peers.serve.Goals as goal
 
-pub returns-in_default-clause-serves : goal.returns-in_default-clause-serves
-returns-in_default-clause-serves g c = let_go g.S.Store _ _ _ c.close.ensures.gone
-
 pub returns-clause-serves : goal.returns-clause-serves
-returns-clause-serves g c =
-    let written = Updates-with_value c.ticks.new.self.guests c.args.key c.take_turn-next.new.self (subst (λ (slot : Option Guest). IsSome slot) c.in-Some.ensures.value refl) in
-    had_turn g.S.Store _ _ c.in-Some.guest.now _ _ (ap (λ (guests : Slab Guest). get guests c.args.key) (sym c.ticks.ensures) ∙ sym c.in-Some.ensures.value) (record {
-      begun = c.mend_space.new.self;
-      moment = (c.in-Some-Ok.moment, c.mend_space.ensures.same ∙ ap (λ (served : Served g.row.S.Denot). record served { spare = spare_of c.mend_space.new.self }) c.set_moment.ensures);
-      turn = record { ticks = c.in-Some-Ok.ticks; has_memory = c.has_memory.result; is_last = c.args.is_last; reads = c.may_read.result };
-      next = c.take_turn-next.result;
-      left = c.take_turn-next.new.self;
-      driven = c.take_turn-next.ensures;
-      stays = subst (λ (slot : Option Guest). StaysAfter c.take_turn-next.result slot (get c.after_turn.new.self.guests c.args.key)) written.changed c.after_turn.ensures.stays;
-    })
+returns-clause-serves g c = (
+  c.read_clocks-told.result,
+  subst (λ (guests : Slab Guest). ServesAt g.S.Store (get guests c.args.key) c.read_clocks-told.result (get c.serve_at.new.self.guests c.args.key) c.args.served.now c.serve_at.new.served)
+      c.read_clocks-told.ensures c.serve_at.ensures.serves,
+)
+
+pub returns-clause-others : goal.returns-clause-others
+returns-clause-others g c = λ other differs. c.serve_at.ensures.others other differs ∙ ap (λ (guests : Slab Guest). get guests other) c.read_clocks-told.ensures
