@@ -1,5 +1,5 @@
 -- The message that the bytes of an answer spell.
-use Rattle.std.proofs.Common.{codes, refl, Bool, true, false, append_assoc, ◌≡◌, ℕ, ◌^◌, ◌+◌, ◌<◌, ◌≤◌, ◌==◌, ◌||◌, cond, drop, slice_index, List, [], ◌∷◌, ◌++◌, length, Option, Some, None, sym, ap, subst, ◌∙◌, arith}
+use Rattle.std.proofs.Common.{codes, refl, Bool, true, false, append_assoc, append-nil, ◌≡◌, ℕ, ◌^◌, ◌+◌, ◌<◌, ◌≤◌, ◌==◌, ◌||◌, cond, drop, slice_index, List, [], ◌∷◌, ◌++◌, length, Option, Some, None, sym, ap, subst, ◌∙◌, arith}
 use Rattle.std.specs.List.{AllByRecursion, flat_map}
 use Rattle.std.proofs.lemmas.Grind.{flat_map-append}
 use Rattle.std.proofs.lemmas.List.{get_or-drop}
@@ -12,9 +12,9 @@ use Rattle.ipp_coding.specs.Tags.{end_tag}
 use Rattle.ipp_coding.specs.declared.message.Header.{Header}
 use Rattle.account_laws.proofs.RefusalTexts.{code_fits, text_alike, text_fits}
 use Rattle.account_laws.proofs.ShownRows.{◌&◌, group_spelled, one_spelled}
-use Rattle.account_laws.specs.AnswerMessages.{done_message, header_told, refused_message, request_id_of}
+use Rattle.account_laws.specs.AnswerMessages.{done_message, failed_message, header_told, refused_message, request_id_of}
 use Rattle.account_laws.specs.RefusalCodes.{code_of}
-use Rattle.account_replies.specs.Replies.{operation_group, reply_header, unsupported_groups}
+use Rattle.account_replies.specs.Replies.{internal_error_text, operation_group, reply_header, reply_text, unsupported_groups}
 use Rattle.account_replies.specs.Responses.{done_text, refused_text, response, success_status}
 use Rattle.account_replies.specs.Words.{word_text}
 use Rattle.account_rules.specs.declared.refusal.Refusal.{Refusal}
@@ -111,3 +111,18 @@ done_tells body unsupported groups header all are =
     let text = done_text (header_in body) unsupported groups in
     as_one (done_message body unsupported groups) text
     (subst (λ (message : PlainMessage). Spells message text) (done_alike body unsupported groups) (response_spells (header_in body) (success_status unsupported) None unsupported groups header (status_low unsupported) tt all are))
+
+-- ---- what could not be applied
+
+abbrev failed_text : Option (List ℕ)
+failed_text = Some (codes "internal-error")
+
+pub failed_tells : (body : List ℕ) → IsHeader (header_in body) → Tells (failed_message body) (internal_error_text (header_in body))
+failed_tells body header =
+    let text = internal_error_text (header_in body) in
+    let spells = response_spells (header_in body) 0x0500 failed_text [] [] header (omega arith) (omega arith) tt tt in
+    let alike : machine_message (header_in body) 0x0500 failed_text [] [] ≡ failed_message body =
+    ap (λ (header : Header). let message : PlainMessage = record { header = header; groups = operation_group failed_text ∷ []; payload = [] } in message) (header_alike body 0x0500) in
+    as_one (failed_message body) text
+    (subst (λ (message : PlainMessage). Spells message text) alike
+    (subst (Spells (machine_message (header_in body) 0x0500 failed_text [] [])) (ap (λ (l : List ℕ). l ++ end_tag ∷ []) (append-nil (reply_text (header_in body) 0x0500 failed_text []))) spells))

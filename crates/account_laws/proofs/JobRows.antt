@@ -1,5 +1,5 @@
 -- The machine shows a job as it was told, and the rows that it shows can be spelled.
-use Rattle.std.proofs.Common.{◌≡◌, ℕ, ◌+◌, ◌-◌, ◌/◌, ◌≤◌, ◌==◌, max, min, Bool, true, false, cond, ◌&&◌, List, [], ◌++◌, map, length, length-append, Option, Some, None, refl, ap, ◌∙◌, arith, codes}
+use Rattle.std.proofs.Common.{◌≡◌, ℕ, ◌+◌, ◌-◌, ◌≤◌, ◌==◌, max, min, Bool, true, false, cond, ◌&&◌, List, [], ◌++◌, map, length, length-append, Option, Some, None, refl, ap, ◌∙◌, arith, codes}
 use Rattle.std.specs.Fmt.{decimal}
 use Rattle.std.specs.Int.{to_be_bytes, w32}
 use Rattle.std.specs.List.{AllByRecursion}
@@ -12,7 +12,7 @@ use Rattle.account_laws.proofs.ShownRows.{◌&◌, IsSpelled, all_alike, as_row,
 use Rattle.account_laws.specs.JobRows.{described, impressions_shown, job_rows, job_group_told, moment_shown, reason_shown, state_shown}
 use Rattle.account_laws.specs.JobsTold.{JobTold, Stage, Waits, Prints, HasEnded, is_stopping}
 use Rattle.account_laws.specs.ShownRows.{attributes_shown}
-use Rattle.account_laws.specs.ShownValues.{charset, enum, integer, keyword, language, unknown, uri}
+use Rattle.account_laws.specs.ShownValues.{enum, integer, keyword, unknown}
 use Rattle.account_laws.specs.StagesTold.{count_told, ended_told, started_told, state_told}
 use Rattle.account_laws.specs.StationAnswers.{is_waiting}
 use Rattle.account_laws.specs.Views.{View, job_uri, queue_uri, seconds}

@@ -81,6 +81,7 @@ pub mod QuestionsTold
 pub mod ToldLists
 pub mod HiddenPages
 pub mod HiddenQuestions
+pub mod LimitsTold
 pub mod LinesTold
 pub mod EscapedNames
 pub mod JobLinesTold
@@ -91,3 +92,6 @@ pub mod ReturnedAttributes
 pub mod DocumentPlaces
 pub mod FilledPlaces
 pub mod NothingElseKept
+pub mod SpelledBytes
+pub mod EachQuestion
+pub mod DocumentsKept

@@ -10,11 +10,10 @@ use Rattle.account_laws.specs.AccountsTold.{AccountTold, unfinished_told}
 use Rattle.account_laws.specs.PrinterRows as rows
 use Rattle.account_laws.specs.PrinterRows.{accepts_jobs, described, format_values, operation_values, printer_reason, printer_rows, printer_group_told, some_is_on, some_is_printed, version_values}
 use Rattle.account_laws.specs.ShownRows.{attributes_shown}
-use Rattle.account_laws.specs.ShownValues.{boolean, charset, enum, integer, keyword, language, uri}
+use Rattle.account_laws.specs.ShownValues.{boolean, enum, integer, keyword}
 use Rattle.account_laws.specs.Views.{View, seconds}
 use Rattle.account_replies.specs.PrinterAttributes.{printer_attributes, printer_group, printer_state_reason}
 use Rattle.account_replies.specs.Queues.{printer_now, printer_state}
-use Rattle.account_replies.specs.Times.{up}
 use Rattle.account_replies.specs.declared.printer.PrinterNow.{PrinterNow}
 
 -- ---- what the machine shows is what was told

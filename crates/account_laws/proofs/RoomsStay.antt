@@ -1,9 +1,8 @@
 -- A life of events within their limits leaves a room.
-use Rattle.std.proofs.Common.{◌≡◌, ℕ, ap, refl, sym, ◌∙◌, ◌&&◌, List, [], ◌∷◌, ◌++◌, Option, Some, None, is_some, All, nat_le, nat_lt, length, true, false, Bool}
-use Rattle.std.specs.FinMap.{get, get-empty}
+use Rattle.std.proofs.Common.{ℕ, sym, ◌∙◌, List, [], ◌∷◌, ◌++◌, Option, Some, None, All, nat_lt, length, true, false, Bool}
+use Rattle.std.specs.FinMap.{get-empty}
 use Rattle.std.specs.Prelude.{IfSome}
 use Rattle.std.proofs.lemmas.List.Elements.{All-cons, All-head, All-nil, All-tail}
-use Rattle.std.proofs.lemmas.Bool.{true≢false}
 use Rattle.std.proofs.lemmas.Option.{none-some}
 use Rattle.ipp_coding.specs.Limits.{header_length}
 use Rattle.account_machine.specs.DeviceEvents.{device_answered}
@@ -14,12 +13,10 @@ use Rattle.account_laws.proofs.DevicesStay.{AreDevices, devices_stay}
 use Rattle.account_lives.proofs.LifeLemmas.{account_exchange, device_exchange, of_each_life, unopened_answer}
 use Rattle.account_laws.proofs.StepsKeepRooms.{event_keeps}
 use Rattle.account_lives.specs.Lives.{Exchange, Life}
-use Rattle.account_laws.specs.RoomsStay.{DocumentsGo, IsEvent, RoomsStay}
+use Rattle.account_laws.specs.RoomsStay.{IsEvent, RoomsStay}
 use Rattle.account_rules.specs.Devices.{Devices, name_cmp}
 use Rattle.account_rules.specs.Limits.{IsMoment}
-use Rattle.account_rules.specs.declared.job.Document.{Document}
-use Rattle.account_rules.specs.declared.job.Job.{Job}
-use Rattle.account_state.specs.RoomRules.{IsRoom, has_document}
+use Rattle.account_state.specs.RoomRules.{IsRoom}
 use Rattle.account_state.specs.Rooms.{RoomValue}
 use Rattle.account_state.proofs.RoomLemmas.{empty_room_keeps}
 
@@ -73,19 +70,6 @@ by_device past room devices now device it so are =
     let before = so each.all in
     record { rules = before.rules; known = devices_stay devices device it each.one.named each.one.fit before.known }
 
-no_document : (found : Option Document) → is_some found ≡ false → found ≡ None
-no_document None none = refl
-no_document (Some document) some = absurd (true≢false some)
-
-gone_of : (room : RoomValue) → IsRoom room → DocumentsGo room
-gone_of room rules number place job there ended =
-    no_document (get room.documents (number, place))
-    (rules.all_documents number place ∙ ap (λ (found : Option Job). has_document found place) there ∙ ap (λ b. b && nat_le 1 place && nat_le place job.standing.documents) ended)
-
-gone : (room : Option RoomValue) → IfSome room IsRoom → IfSome room DocumentsGo
-gone None rules = tt
-gone (Some room) rules = gone_of room rules
-
 pub rooms_stay : RoomsStay
 rooms_stay life room devices is are =
     let stays = of_each_life StaysSo (record {
@@ -93,4 +77,4 @@ rooms_stay life room devices is are =
       by_account = by_account;
       by_device = by_device;
     }) life room devices is are in
-    record { rules = stays.rules; gone = gone room stays.rules; named = stays.known.named; rated = stays.known.rated }
+    record { rules = stays.rules; named = stays.known.named; rated = stays.known.rated }

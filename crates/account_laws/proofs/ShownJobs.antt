@@ -22,7 +22,7 @@ use Rattle.account_replies.specs.Tables.{ShownRow, is_wanted, row_attribute, sho
 use Rattle.account_rules.specs.JobStates.{has_ended, is_processing, is_unfinished}
 use Rattle.account_rules.specs.declared.job.Job.{Job}
 use Rattle.account_rules.specs.declared.job.JobState.{JobState}
-use Rattle.account_rules.specs.declared.job.JobState.TheVariants.{Held, Processing, Completed}
+use Rattle.account_rules.specs.declared.job.JobState.TheVariants.{Held, Processing}
 use Rattle.account_rules.specs.declared.job.Standing.{Standing}
 use Rattle.account_state.specs.Queues.{first_jobs, is_later, put_by_end}
 use Rattle.account_state.specs.Rooms.{RoomValue}

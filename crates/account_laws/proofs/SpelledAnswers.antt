@@ -14,7 +14,7 @@ use Rattle.ipp_coding.specs.declared.message.Header.{Header}
 use Rattle.account_asks.specs.Asks.{PlainAsk, PlainRefusal, ask_of, asked}
 use Rattle.account_asks.specs.declared.operation.Operation.{Operation}
 use Rattle.account_asks.specs.declared.operation.Operation.TheVariants as asks
-use Rattle.account_laws.proofs.AnswerMessages.{Tells, done_tells, refused_tells}
+use Rattle.account_laws.proofs.AnswerMessages.{Tells, done_tells, failed_tells, refused_tells}
 use Rattle.account_laws.proofs.AsTold.{AccountKeeps, all_keep}
 use Rattle.account_laws.proofs.AsksLieWithin.{asks_lie_within}
 use Rattle.account_laws.proofs.AsksWithin.{message_passed}
@@ -34,7 +34,7 @@ use Rattle.account_laws.specs.JobsTold.{JobTold, job_brought, job_made}
 use Rattle.account_laws.specs.ListedJobs.{Numbered, jobs_listed}
 use Rattle.account_laws.specs.Refusals.{first_refusal}
 use Rattle.account_laws.specs.RequestAnswers.{answer_as_read, answer_of, operation_checks, request_answer}
-use Rattle.account_laws.specs.SpelledAnswers.{AnswersAreSpelled, AnswersRequest, Spelled, message_by, message_told}
+use Rattle.account_laws.specs.SpelledAnswers.{AnswersAreSpelled, AnswersRequest, FailuresAreSpelled, Spelled, message_by, message_told}
 use Rattle.account_laws.specs.StandsAsTold.{StandsAsTold}
 use Rattle.account_laws.specs.Views.{View, view_of}
 use Rattle.account_lives.proofs.LifeLemmas.{front_of_life}
@@ -141,3 +141,10 @@ answers_are_spelled life room devices is past later now account body said here b
     let told = account_told past in
     subst (AnswersRequest told body (message_told told now account body (ask_of account body))) (sym (requests_are_answered life room devices is past later now account body said here))
     (request_spelled told front.room all.account (names_are_short past) now account body bytes named)
+
+-- ---- a request that could not be applied
+
+pub failures_are_spelled : FailuresAreSpelled
+failures_are_spelled body bytes long =
+    let tells = failed_tells body (header_fits body bytes (grind (arith, nat_tests, long))) in
+    record { spells = tells.spells; is_one = tells.is_one }

@@ -10,7 +10,7 @@ use Rattle.account_asks.specs.declared.operation.Operation.{Operation}
 use Rattle.account_asks.specs.declared.operation.Operation.TheVariants as asks
 use Rattle.account_laws.proofs.RefusalTexts.{text_alike}
 use Rattle.account_laws.specs.AnswerMessages.{done_code}
-use Rattle.account_laws.specs.VerdictsTold.{AccountsAreToldVerdicts, DevicesAreToldVerdicts, NamesJob, ReplyTells, ResponseTells, VerdictsNameJobs, job_done}
+use Rattle.account_laws.specs.VerdictsTold.{AccountsAreToldVerdicts, DevicesAreToldVerdicts, NamesJob, ReplyTells, ResponseTells, VerdictsNameJobs}
 use Rattle.account_lives.proofs.LifeLemmas.{unopened_answer}
 use Rattle.account_machine.specs.DeviceEvents.{DeviceAnswer}
 use Rattle.account_machine.specs.Events.{PlainEvent, OfAccount, OfDevice, Open, Ipp, Release, Start, Settle, Grant, Switch, Rate}
@@ -25,7 +25,6 @@ use Rattle.account_machine.specs.Stations.{station, station_release, station_set
 use Rattle.account_machine.specs.Steps.{Step, refusing_or, with_moved}
 use Rattle.account_machine.specs.Verdicts.{line_done, line_refused, short_refused}
 use Rattle.account_machine.specs.declared.event.Reply.TheVariants as reply
-use Rattle.account_machine.specs.declared.verdict.Verdict.{Verdict}
 use Rattle.account_replies.specs.Grants.{grant_refusal}
 use Rattle.account_replies.specs.JobAttributes.{job_group}
 use Rattle.account_replies.specs.Lines.{success_text}

@@ -58,6 +58,20 @@ refused_message body word unsupported = record {
   payload = [];
 }
 
+-- ---- what could not be applied
+
+-- server-error-internal-error (section B.1.5.1); its text is this project's own
+abbrev pub failed_message : (body : List ℕ) → PlainMessage
+failed_message body = record {
+  header = header_told body 0x0500;
+  groups =
+      first_group
+      (attribute_told (codes "status-message") (text_without_language (codes "internal-error"))
+      ∷ [])
+      ∷ [];
+  payload = [];
+}
+
 -- ---- what is done
 
 -- successful-ok, and successful-ok-ignored-or-substituted-attributes where something is not

@@ -53,6 +53,7 @@ pub mod RefusalMeanings
 pub mod RefusalOrder
 pub mod QuestionsTold
 pub mod PasswordsInQuestions
+pub mod LimitsTold
 pub mod LinesTold
 pub mod JobLinesTold
 pub mod StatementsTold
@@ -60,3 +61,6 @@ pub mod AgainTold
 pub mod PagesTold
 pub mod ReturnedAttributes
 pub mod NothingElseKept
+pub mod SpelledBytes
+pub mod EachQuestion
+pub mod DocumentsKept

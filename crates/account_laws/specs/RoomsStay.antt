@@ -1,16 +1,14 @@
 -- Rooms stay rooms (all this project's own).
-use Rattle.std.specs.Prelude.{◌≡◌, ℕ, false, List, All, Option, None, Some, IfSome, IsTrue}
+use Rattle.std.specs.Prelude.{◌≡◌, ℕ, List, All, Option, Some, IfSome, IsTrue}
 use Rattle.std.specs.FinMap.{get}
 use Rattle.account_machine.specs.Events.{PlainEvent, Timed, OfAccount, OfDevice}
 use Rattle.account_machine.specs.Fits.{fits}
 use Rattle.account_machine.specs.Rates.{AreRated}
 use Rattle.account_lives.specs.Lives.{Exchange, IsLife, Life}
 use Rattle.account_rules.specs.Devices.{Devices}
-use Rattle.account_rules.specs.JobStates.{is_unfinished}
 use Rattle.account_rules.specs.Limits.{IsMoment}
 use Rattle.account_rules.specs.Names.{is_name}
 use Rattle.account_rules.specs.declared.device.Device.{Device}
-use Rattle.account_rules.specs.declared.job.Job.{Job}
 use Rattle.account_state.specs.RoomRules.{IsRoom}
 use Rattle.account_state.specs.Rooms.{RoomValue}
 
@@ -30,16 +28,9 @@ pub record IsEvent (e : Timed) : Type 0 where
   pub fit : IsTrue (fits e.1)
   pub named : IsNamed e.1
 
--- the documents of a job are gone once it has ended
-abbrev pub DocumentsGo : RoomValue → Type 0
-DocumentsGo room =
-    (number place : ℕ) (job : Job) → get room.jobs number ≡ Some job
-    → is_unfinished job.standing.state ≡ false → get room.documents (number, place) ≡ None
-
 -- a room that keeps its rules, if there is one, among devices that have names and rates
 pub record KeepsRules (room : Option RoomValue) (devices : Devices) : Type 0 where
   pub rules : IfSome room IsRoom
-  pub gone : IfSome room DocumentsGo
   pub named : AreNamed devices
   pub rated : AreRated devices
 

@@ -1,10 +1,11 @@
 -- What the bytes of an answer spell, by what was told before (RFC 8011 sections 4.2 and 4.3).
 use Rattle.std.specs.Prelude.{◌≡◌, ◌≢◌, ℕ, ◌<◌, ◌≤◌, List, ◌∷◌, ◌++◌, length, Option, Some, None, Result, Ok, Err}
 use Rattle.ipp_coding.specs.Plain.{PlainMessage}
+use Rattle.ipp_coding.specs.Reading.{header_in}
 use Rattle.ipp_coding.specs.Spelling.{Spells}
 use Rattle.account_asks.specs.Asks.{PlainAsk, PlainRefusal, ask_of}
 use Rattle.account_laws.specs.AccountsTold.{AccountTold, account_told}
-use Rattle.account_laws.specs.AnswerMessages.{done_message, refused_message}
+use Rattle.account_laws.specs.AnswerMessages.{done_message, failed_message, refused_message}
 use Rattle.account_laws.specs.AsksLieWithin.{AreBytes}
 use Rattle.account_laws.specs.DoneAnswers.{groups_told}
 use Rattle.account_laws.specs.Refusals.{first_refusal}
@@ -13,6 +14,7 @@ use Rattle.account_lives.specs.Lives.{Life, OfLives}
 use Rattle.account_machine.specs.Events.{OfAccount, Ipp}
 use Rattle.account_machine.specs.declared.event.Reply.{Reply}
 use Rattle.account_machine.specs.declared.event.Reply.TheVariants as reply
+use Rattle.account_replies.specs.Replies.{internal_error_text}
 use Rattle.account_rules.specs.declared.refusal.Refusal.{Refusal}
 
 -- ---- the message
@@ -67,3 +69,16 @@ AnswersAreSpelled = OfLives (λ life.
     → AreBytes body → length account ≤ 32
     → let told = account_told past in
     AnswersRequest told body (message_told told now account body (ask_of account body)) said)
+
+-- ---- a request that could not be applied
+
+-- bytes spell the message, and no other
+pub record SpellsOne (message : PlainMessage) (text : List ℕ) : Type 0 where
+  pub spells : Spells message text
+  pub is_one : (other : PlainMessage) → Spells other text → other ≡ message
+
+-- What is told where a request could not be applied spells that, with the request's id.
+abbrev pub FailuresAreSpelled : Type 0
+FailuresAreSpelled =
+    (body : List ℕ) → AreBytes body → 8 ≤ length body
+    → SpellsOne (failed_message body) (internal_error_text (header_in body))

@@ -3,6 +3,8 @@
 
 ghost use Rattle.account_laws.specs.AsksLieWithin.{AsksLieWithin};
 ghost use Rattle.account_laws.specs.CalendarMonths.{MonthsAreTheCalendars};
+ghost use Rattle.account_laws.specs.DocumentsKept.{DocumentsGoWithTheirJobs};
+ghost use Rattle.account_laws.specs.LimitsTold.{EventsLieWithin, MomentsEnd, NamesAreThese, NamesGoByTheirBytes};
 ghost use Rattle.account_laws.specs.NothingElseKept.{NothingElseIsKept};
 ghost use Rattle.account_laws.specs.RoomsStay.{RoomsStay};
 ghost use Rattle.account_laws.specs.StandsAsTold.{LeavesAsTold};
@@ -36,8 +38,20 @@ pub fn months_are_the_calendars()
 {}
 
 /// Law: all that there is of your account was asked and told. Two lives that tell the same leave the
-/// same account, with every job and every document, and the same devices: nothing else is kept.
+/// same account, with every job and every document, and the same devices: nothing else is kept. Each
+/// document is one that was sent for a job, and is kept until that ends.
 #[tactic(auto, using(crate::proofs::NothingElseKept::nothing_else_is_kept))]
 pub fn nothing_else_is_kept()
-    ensures { NothingElseIsKept }
+    ensures same { NothingElseIsKept }
+    ensures documents { DocumentsGoWithTheirJobs }
+{}
+
+/// Law: the events that are taken are those within these limits, moments end with 2099, and names are
+/// these, in the order of their bytes.
+#[tactic(auto, using(crate::proofs::LimitsTold::events_lie_within, crate::proofs::LimitsTold::moments_end, crate::proofs::LimitsTold::names_are_these, crate::proofs::LimitsTold::names_go_by_their_bytes))]
+pub fn limits_are_these()
+    ensures events { EventsLieWithin }
+    ensures moments { MomentsEnd }
+    ensures names { NamesAreThese }
+    ensures order { NamesGoByTheirBytes }
 {}

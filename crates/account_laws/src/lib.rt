@@ -16,7 +16,8 @@ mod verdicts;
 
 pub use answers::{operators_are_answered, stations_are_answered};
 pub use laws::{
-    asks_lie_within, leaves_as_told, months_are_the_calendars, nothing_else_is_kept, rooms_stay,
+    asks_lie_within, leaves_as_told, limits_are_these, months_are_the_calendars,
+    nothing_else_is_kept, rooms_stay,
 };
 pub use operators::{devices_are_set_by_their_lines, months_are_granted_once};
 pub use printing::{
@@ -27,5 +28,7 @@ pub use questions::{pages_tell_the_life, questions_tell_the_life};
 pub use quota_account::{accounts_balance, releases_owe_nothing, settlements_charge};
 pub use refusals::{refusals_are_coded, refusals_mean, refusals_send_back, requests_are_done};
 pub use replies::answers_are_spelled;
-pub use requests::{asks_are_spelled, jobs_are_counted, jobs_stay, requests_are_answered};
+pub use requests::{
+    asks_are_spelled, jobs_are_counted, jobs_stay, messages_are_in_bytes, requests_are_answered,
+};
 pub use verdicts::replies_tell_verdicts;

@@ -2,6 +2,7 @@
 //! at run time; docs/PROMISES.md lists them.
 
 ghost use Rattle.account_laws.specs.AgainTold.{AgainIsTold};
+ghost use Rattle.account_laws.specs.EachQuestion.{EachQuestionIsTold};
 ghost use Rattle.account_laws.specs.JobLinesTold.{EndedAreTold, JobsAreTold, WaitingIsTold};
 ghost use Rattle.account_laws.specs.LinesTold.{AccountsAreListed, DevicesAreTold, GrantsAreTold, LeftIsTold, OthersAreTold};
 ghost use Rattle.account_laws.specs.PagesTold.{OwnerPagesAreTold, StatementPagesAreTold};
@@ -12,7 +13,7 @@ ghost use Rattle.account_laws.specs.StatementsTold.{StatementsAreTold};
 /// same every question is answered the same, in lines and on pages. Each line is the text that what
 /// was told spells, byte for byte: what is left of your quota, the statement of a month, your jobs
 /// that go on, those that ended last, those that a station may have, documents once more, your
-/// grants, the devices.
+/// grants, the devices. There is no other question.
 pub fn questions_tell_the_life()
     ensures life { QuestionsTellTheLife }
     ensures left { LeftIsTold }
@@ -25,6 +26,7 @@ pub fn questions_tell_the_life()
     ensures again { AgainIsTold }
     ensures others { OthersAreTold }
     ensures accounts { AccountsAreListed }
+    ensures each { EachQuestionIsTold }
 {}
 
 /// Law: your page, and the statement of a month for paper, show your quota, your jobs and the

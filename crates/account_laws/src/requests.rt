@@ -5,6 +5,7 @@ ghost use Rattle.account_laws.specs.LastingJobs.{JobsStay};
 ghost use Rattle.account_laws.specs.NewNumbers.{JobsAreCounted, NumbersAreKept, NumbersDiffer};
 ghost use Rattle.account_laws.specs.RequestAnswers.{RequestsAreAnswered};
 ghost use Rattle.account_laws.specs.SpelledAsks.{AsksAreSpelled, SpelledAsksAreTaken};
+ghost use Rattle.account_laws.specs.SpelledBytes.{MessagesAreInBytes, TextsAreInBytes};
 
 /// Law: your request is done exactly where nothing stands against it, and else is refused for the
 /// first thing that does, in the order of the checks, by what you were told before. What is done is
@@ -37,4 +38,11 @@ pub fn jobs_stay()
 pub fn asks_are_spelled()
     ensures spelled { AsksAreSpelled }
     ensures taken { SpelledAsksAreTaken }
+{}
+
+/// Law: which bytes spell a message, tag by tag and length by length, and which a text with its
+/// language. All laws that speak of messages take it from here.
+pub fn messages_are_in_bytes()
+    ensures messages { MessagesAreInBytes }
+    ensures texts { TextsAreInBytes }
 {}

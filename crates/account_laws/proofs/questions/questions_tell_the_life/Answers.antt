@@ -1,4 +1,5 @@
 use Rattle.account_laws.proofs.AgainTold.{again_is_told}
+use Rattle.account_laws.proofs.EachQuestion.{each_question_is_told}
 use Rattle.account_laws.proofs.JobLinesTold.{ended_are_told, jobs_are_told, waiting_is_told}
 use Rattle.account_laws.proofs.LinesTold.{accounts_are_listed, devices_are_told, grants_are_told, left_is_told, others_are_told}
 use Rattle.account_laws.proofs.QuestionsTold as proof
@@ -18,4 +19,5 @@ returns c = record {
   again = again_is_told;
   others = others_are_told;
   accounts = accounts_are_listed;
+  each = each_question_is_told;
 }
