@@ -159,10 +159,10 @@ class Cupsd:
 class Front(Cupsd):
     """The front, as it is installed: packaging/cups, at port 631, but with so many seconds between two tries.
 
-    The server is at this place, a port or the path of a socket.
+    The server is at this place, a port or the path of a socket. The table of names is the file `names` of the folder.
     """
 
-    def __init__(self, folder, place, realms=(), seconds=1, needs_pin=False):
+    def __init__(self, folder, place, table='rule same\n', seconds=1, needs_pin=False):
         with open(f'{PACKAGE}/cupsd.conf') as file:
             conf = file.read().replace('/run/cups/cups.sock', f'{folder}/cups.sock')
         super().__init__(folder, conf.replace('JobRetryInterval 30', f'JobRetryInterval {seconds}'))
@@ -171,8 +171,17 @@ class Front(Cupsd):
                 os.remove(path.replace(STOCK, f'{folder}/bin'))
         for name in ('backend', 'filter', 'room'):
             shutil.copytree(f'{PACKAGE}/{name}', f'{folder}/bin/{name}', dirs_exist_ok=True)
-        query = '&'.join([f'realm={realm}' for realm in realms] + ['pin=required'] * needs_pin)
-        self.device = (f'room://{place}' if '/' in str(place) else f'room://127.0.0.1:{place}/') + (query and f'?{query}')
+        with open(f'{folder}/bin/room/names.py', 'r+') as file:
+            text = file.read().replace("'/etc/ipp-room/names'", f"'{folder}/names'")
+            file.seek(0)
+            file.write(text)
+            file.truncate()
+        self.put_table(table)
+        self.device = (f'room://{place}' if '/' in str(place) else f'room://127.0.0.1:{place}/') + '?pin=required' * needs_pin
+
+    def put_table(self, table):
+        with open(f'{self.folder}/names', 'w') as file:
+            file.write(table)
 
     def set_up(self):
         self.runs('lpadmin', '-p', QUEUE, '-E', '-v', self.device, '-P', f'{PACKAGE}/release.ppd', '-o', 'printer-is-shared=true')
