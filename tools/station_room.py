@@ -366,7 +366,7 @@ class Room:
 
     def __init__(self, folder, has_life_count=True, pages=100000):
         self.folder, self.has_life_count, self.pages = folder, has_life_count, pages
-        self.path, self.stations = f'{folder}/room.db', f'{folder}/stations'
+        self.path, self.stations, self.table = f'{folder}/room.db', f'{folder}/stations', f'{folder}/names'
 
     def __enter__(self):
         # Where a part does not begin, those before it are ended.
@@ -381,6 +381,7 @@ class Room:
     def begin(self, ends):
         os.chmod(self.folder, 0o755)
         create(self.path, ['alice', 'bob'], [f'{MOMENT} device hall on', f'{MOMENT} grant alice 2026-09 {self.pages}'])
+        write(self.table, 'case folds\nrule same\n')
         self.start()
         ends.callback(self.kill)
         nobody = pwd.getpwnam('nobody')
@@ -404,7 +405,7 @@ class Room:
         """Those of the station, with another server, or another device."""
         return [f'{STATION}/ipp-room-station', server or self.stations, 'hall', 'device',
                 uri or f'ipp://localhost:{self.device.port}/ipp/print', '--folder', f'{self.folder}/station',
-                '--cups', self.cups.door, *self.life, *more]
+                '--cups', self.cups.door, '--names', self.table, *self.life, *more]
 
     def begin_kiosk(self, umask=0o22, **words):
         """Another station takes the place of the one that runs."""

@@ -6,11 +6,11 @@ import ticket
 from following import pages
 from guesses import Guesses
 from ipp import Refused as NotTold
+from names import Unusable, load
 from server import Lost, Refused
 
 # Seconds: how long a person may think before typing, and has to read.
 THINKS, READS = 60, 10
-ACCOUNT = '[a-z][a-z0-9-]{0,31}'
 REFUSALS = {'password': 'The PIN is wrong.', 'incomplete': 'Its documents have not all come yet.',
             'impressions-unknown': 'Nobody has told how many pages it has.', 'no-job': 'It is not there any more.',
             'device-off': 'The print room has turned this printer off.',
@@ -20,8 +20,8 @@ REFUSALS = {'password': 'The PIN is wrong.', 'incomplete': 'Its documents have n
 
 
 class Kiosk:
-    def __init__(self, printing):
-        self.printing, self.name, self.screen = printing, printing.name, printing.screen
+    def __init__(self, printing, table):
+        self.printing, self.name, self.screen, self.table = printing, printing.name, printing.screen, table
         self.server, self.device, self.guesses = printing.server, printing.device, Guesses(printing.state)
 
     def run(self):
@@ -31,16 +31,16 @@ class Kiosk:
             self.printing.tidy()
             self.screen.clear()
             self.screen.say(f'{self.name}: release your jobs here.')
-            account = self.screen.ask('Account: ', THINKS)
-            if account and account.strip():
-                self.serve(account.strip().lower())
+            name = self.screen.ask('Account: ', THINKS)
+            if name and name.strip():
+                self.serve(name.strip())
                 self.screen.say('Thank you. Press Enter.')
                 self.screen.pause(READS)
 
-    def serve(self, account):
+    def serve(self, name):
         """One person, up to the end."""
-        if not re.fullmatch(ACCOUNT, account):
-            self.screen.say('That is no name of an account.')
+        account = self.account_of(name)
+        if account is None:
             return
         pin = self.screen.ask('PIN (Enter for none): ', THINKS, hidden=True)
         if pin is None:
@@ -55,6 +55,17 @@ class Kiosk:
         for row in self.chosen(account, rows):
             if not self.release(account, row, pin):
                 return
+
+    def account_of(self, name):
+        """The account of who signs in by this name elsewhere; None where there is none, which is said."""
+        try:
+            account = load(self.table).account_of(name.encode())
+        except Unusable as unusable:
+            self.screen.say(f'Nobody knows now whose account that is. Tell the print room: {unusable}.')
+            return None
+        if account is None:
+            self.screen.say(f'There is no account for {name}. Type the name by which you sign in, or ask the print room.')
+        return account
 
     def waiting(self, account):
         """The account's jobs that can be printed here."""
