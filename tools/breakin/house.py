@@ -133,7 +133,7 @@ class House:
                    *(f'grant {user} 2026-01 100000' for user in ['alice', *USERS]))
 
     def set_up_proxy(self):
-        self.machine.run('apt-get -q install ./ipp-room_*.deb && systemctl disable --now cups.socket cups.path cups')
+        self.machine.run('apt-get -q install ./ipp-room_*.deb ./ipp-room-names_*.deb && systemctl disable --now cups.socket cups.path cups')
         wait_until(lambda: self.machine.ask(f'ipp-room ping {OPERATORS}')[1] == 0, WAITS, 'an answer to `ping`')
         self.machine.run(f"echo '127.0.0.1 {HOST}' >> /etc/hosts; "
                          f'openssl req -x509 -newkey rsa:2048 -nodes -keyout privkey.pem -out fullchain.pem -subj /CN={HOST} -days 30 '
