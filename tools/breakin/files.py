@@ -27,7 +27,7 @@ def of_the_packages(house):
     kept = '/var/lib/ipp-room /var/log/ipp-room /var/lib/ipp-room-station /var/spool/cups /etc/cups/ssl /var/log/cups'
     read = [(user, path) for user in ('nobody', 'alice')
             for path in house.ask_as(user, f'find {kept} -type f \\( -readable -o -writable \\) 2>/dev/null')[0].split()]
-    written = house.machine.told("for p in ipp-room ipp-room-cups ipp-room-station; do dpkg -L $p; done | "
+    written = house.machine.told("for p in ipp-room ipp-room-cups ipp-room-names ipp-room-station; do dpkg -L $p; done | "
                                  "xargs -d '\\n' stat -c '%A %U %n' | grep -E '^[-d].......w| (ipp|lp|nobody)[^ ]* /'").splitlines()
     entered = [(user, path) for user in ('nobody', 'alice', 'lp') for path in ('/var/lib/ipp-room', '/var/log/ipp-room')
                if house.ask_as(user, f'ls {path}')[1] == 0]
@@ -91,7 +91,7 @@ def copies_keep_nothing(house):
 def licences(house):
     """Each package says under which licence it may be installed."""
     told = {}
-    for package in ('ipp-room', 'ipp-room-cups', 'ipp-room-station'):
+    for package in ('ipp-room', 'ipp-room-cups', 'ipp-room-names', 'ipp-room-station'):
         text = house.machine.run(f'cat /usr/share/doc/{package}/copyright')
         own = text.split('Files: *')[1].split('\nFiles:')[0]
         told[package] = next((line for line in own.splitlines() if line.startswith('License:')), None)
