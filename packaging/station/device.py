@@ -14,15 +14,22 @@ IMPRESSIONS = 7
 # A counter of 32 bits begins anew.
 WRAPS = 1 << 32
 
+COUNT = 'job-impressions-completed'
+UNCOUNTED = (f'the printer does not count what it prints: its jobs tell no {COUNT}. `--life-count HOST` has its life counter asked '
+             'by SNMP; with `--charge-released` a job costs all that was released of it, once the printer has it, whatever comes out')
+
 Printed = collections.namedtuple('Printed', 'number state count')
 
 
 class Device:
-    """A device's own printer of IPP. `agent` is where it answers SNMP, as HOST or HOST:PORT, if it does."""
+    """A device's own printer of IPP. `agent` is where it answers SNMP, as HOST or HOST:PORT, if it does. Where it does not count,
+    the operator may want it all the same: `charges_released`."""
 
-    def __init__(self, uri, trust=None, agent=None, community='public'):
+    def __init__(self, uri, trust=None, agent=None, community='public', charges_released=False):
         self.printer = ipp.Printer(uri, timeout=10, trust=trust)
-        self.agent, self.community = agent, community
+        self.agent, self.community, self.charges_released = agent, community, charges_released
+        # Whether it counts what comes out: its jobs show it, and until then, as None, nobody knows.
+        self.counts, self.is_tried = None, False
 
     def supported(self):
         return self.printer.attributes([f'{name}-supported' for name in ticket.SYNTAXES])
@@ -41,12 +48,46 @@ class Device:
 
     def find(self, name):
         """What the device tells of the job of this name, or None where it knows none."""
-        names = ['job-id', 'job-name', 'job-state', 'job-impressions-completed']
-        for job in self.printer.jobs(names):
+        for job in self.jobs():
             number, state = ipp.number_of(job, 'job-id'), ipp.number_of(job, 'job-state')
             if job.get('job-name') == [name] and number is not None and state is not None:
-                return Printed(number, state, ipp.number_of(job, 'job-impressions-completed') or 0)
+                return Printed(number, state, ipp.number_of(job, COUNT) or 0)
         return None
+
+    def jobs(self):
+        """What it tells of its jobs. Those that have ended show whether it counts."""
+        jobs = self.printer.jobs(['job-id', 'job-name', 'job-state', COUNT])
+        ended = [job for job in jobs if (ipp.number_of(job, 'job-state') or 0) >= ipp.CANCELED]
+        if any((ipp.number_of(job, COUNT) or 0) > 0 for job in jobs):
+            self.counts = True
+        elif any(COUNT not in job or job['job-state'] == [ipp.COMPLETED] for job in ended):
+            self.counts = False
+        return jobs
+
+    def is_uncounted(self):
+        """Whether it is known that nothing would tell what comes out, and that is not what the operator wants."""
+        if self.charges_released:
+            return False
+        if self.agent is not None:
+            if self.life_count() is not None:
+                return False
+            log(f'{self.agent} tells no life count of impressions')
+        try:
+            if not self.jobs() and not self.is_tried:
+                self.is_tried = True
+                self.try_job()
+        except (OSError, ipp.Refused):
+            # It is looked at again before the next release.
+            pass
+        return self.counts is False
+
+    def try_job(self):
+        """Has it make a job, which gets no document and is canceled, to see whether it tells a count of it."""
+        groups = self.printer.ask(ipp.CREATE_JOB, [(ipp.NAME, 'job-name', ['room-count'])])
+        for tag, job in groups:
+            if tag == ipp.JOB_GROUP:
+                self.cancel(ipp.number_of(job, 'job-id'))
+        self.jobs()
 
     def is_idle(self):
         return self.printer.attributes(['printer-state']).get('printer-state') == [ipp.PRINTER_IDLE]

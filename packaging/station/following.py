@@ -24,7 +24,7 @@ class Following:
         self.spooler, self.device, self.screen = printing.spooler, printing.device, printing.screen
         self.begun = self.heard = self.asked = time.monotonic()
         self.missing = self.stalled = None
-        self.number, self.is_stopped, self.told = None, False, ''
+        self.number, self.is_stopped, self.is_life_told, self.told = None, False, False, ''
 
     def look(self):
         """Asks CUPS first, and then the device: a document that CUPS is done with has come to the device, or never will."""
@@ -76,7 +76,12 @@ class Following:
             if not self.is_device_idle():
                 return
             self.handed['count'] = self.count_of_life()
-        self.handed['end'] = 'done' if printed.state == ipp.COMPLETED else 'failed'
+        self.end('done' if printed.state == ipp.COMPLETED else 'failed')
+
+    def end(self, how):
+        """The document has ended so. A count of 0 is one that the device did not keep, unless it is known to count."""
+        self.handed['is_counted'] = self.handed['count'] > 0 or self.is_life_told or self.device.counts is True
+        self.handed['end'] = how
 
     def is_device_idle(self):
         try:
@@ -120,7 +125,7 @@ class Following:
             self.handed['end'] = 'unsent'
             return
         self.handed['count'] = self.count_of_life()
-        self.handed['end'] = 'failed'
+        self.end('failed')
 
     def count_of_life(self):
         """What came out by the device's life count, else the last count that it told of the document."""
@@ -128,6 +133,7 @@ class Following:
         after = self.device.life_count() if self.handed['before'] is not None else None
         if after is None:
             return told
+        self.is_life_told = True
         return max(told, min(self.most(), device.came_out(self.handed['before'], after)))
 
     def most(self):

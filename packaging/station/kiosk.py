@@ -25,8 +25,7 @@ class Kiosk:
         self.server, self.device, self.guesses = printing.server, printing.device, Guesses(printing.state)
 
     def run(self):
-        """Goes on with what an earlier run began, and serves people until the terminal ends."""
-        self.printing.carry_on()
+        """Serves people until the terminal ends."""
         while True:
             self.printing.tidy()
             self.screen.clear()

@@ -5,6 +5,7 @@ import secrets
 
 import ipp
 import ticket
+from device import UNCOUNTED, log
 from following import Following, pages
 from server import MOST, Lost, Refused
 
@@ -27,7 +28,14 @@ class Printing:
             self.state.save()
         except OSError as error:
             return f"This station's disk: {error.strerror}."
-        return self.spooler.obstacle() or self.device.obstacle()
+        return self.spooler.obstacle() or self.device.obstacle() or self.uncounted()
+
+    def uncounted(self):
+        """What is said where nothing would tell what comes out, or None."""
+        if not self.device.is_uncounted():
+            return None
+        log(UNCOUNTED)
+        return 'This printer does not count what it prints. Tell the print room.'
 
     def release(self, account, row, password, impressions):
         """Has a job released, prints and settles it. Answers the word of a refusal, or None."""
@@ -191,7 +199,8 @@ class Printing:
     def permit(self, job, number):
         """Allows the next document to be printed, under a name that no other ever had."""
         name = f"room-{job['account']}-{job['job']}-{number + 1}-{secrets.token_hex(4)}"
-        handed = {'name': name, 'number': None, 'before': self.device.life_count(), 'count': 0, 'seen': False, 'end': None}
+        handed = {'name': name, 'number': None, 'before': self.device.life_count(), 'count': 0, 'seen': False, 'is_counted': True,
+                  'end': None}
         self.spooler.allow(name)
         job['documents'].append(handed)
         try:
@@ -216,13 +225,20 @@ class Printing:
         self.state.save_if_possible()
         return handed['end']
 
+    def count(self, job):
+        """The impressions to be charged. Where the device has had a document and counted nothing, those that were released."""
+        counted = sum(document['count'] for document in job['documents'])
+        if all(document.get('is_counted', True) for document in job['documents'] if document['seen']):
+            return counted
+        return max(counted, (job['impressions'] or 0) * job['copies'])
+
     def is_stop_typed(self, seconds):
         line = self.screen.pause(seconds)
         return line is not None and line.strip().lower() == 'stop'
 
     def settle(self, job):
         """Tells the server what the device has counted, until that is answered."""
-        count = min(MOST, sum(document['count'] for document in job['documents']))
+        count = min(MOST, self.count(job))
         line = f"settle {self.name} {job['account']} {job['job']} {count} {job['end']}"
         how = 'Printed' if job['end'] == 'done' else 'It has failed, or was stopped'
         while True:
