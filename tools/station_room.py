@@ -14,6 +14,7 @@ import shutil
 import signal
 import socket
 import subprocess
+import sys
 import time
 
 import documents
@@ -212,6 +213,22 @@ class Device:
         self.bus.kill()
         self.bus.wait()
 
+    def print_aside(self, pages):
+        """Begins to print what comes past all stations."""
+        sys.path.append(STATION)
+        import ipp
+
+        def is_taken():
+            try:
+                printer.ask(ipp.PRINT_JOB, asked, data=pdf(pages))
+            except ipp.Refused:
+                # It takes one job at a time.
+                return False
+            return True
+        printer = ipp.Printer(f'ipp://{self.host}:{self.port}/ipp/print')
+        asked = [(ipp.NAME, 'job-name', ['aside']), (ipp.FORMAT, 'document-format', ['application/pdf'])]
+        wait_until(is_taken, 60, 'a device that takes a job')
+
     def paper(self, account, job):
         """What came out of a job: for each document, name and impressions in a row."""
         came = collections.defaultdict(list)
@@ -361,6 +378,15 @@ class Kiosk:
         return said
 
 
+def make_folders(folder):
+    """Those of a station."""
+    nobody = pwd.getpwnam('nobody')
+    for name, group, mode in (('station', nobody.pw_gid, 0o755), ('station/may-print', pwd.getpwnam('lp').pw_gid, 0o2770)):
+        os.mkdir(f'{folder}/{name}')
+        os.chown(f'{folder}/{name}', nobody.pw_uid, group)
+        os.chmod(f'{folder}/{name}', mode)
+
+
 class Room:
     """All that a try needs, up to the end of the block."""
 
@@ -380,15 +406,12 @@ class Room:
 
     def begin(self, ends):
         os.chmod(self.folder, 0o755)
-        create(self.path, ['alice', 'bob'], [f'{MOMENT} device hall on', f'{MOMENT} grant alice 2026-09 {self.pages}'])
+        create(self.path, ['alice', 'bob'], [f'{MOMENT} device hall on', f'{MOMENT} device studio on',
+                                             f'{MOMENT} grant alice 2026-09 {self.pages}'])
         write(self.table, 'case folds\nrule same\n')
         self.start()
         ends.callback(self.kill)
-        nobody = pwd.getpwnam('nobody')
-        for name, group, mode in (('station', nobody.pw_gid, 0o755), ('station/may-print', pwd.getpwnam('lp').pw_gid, 0o2770)):
-            os.mkdir(f'{self.folder}/{name}')
-            os.chown(f'{self.folder}/{name}', nobody.pw_uid, group)
-            os.chmod(f'{self.folder}/{name}', mode)
+        make_folders(self.folder)
         self.device = Device(self.folder)
         ends.callback(self.device.end)
         self.cups = Cups(self.folder, self.device.port)
@@ -401,11 +424,23 @@ class Room:
         self.kiosk = Kiosk(self.words())
         ends.callback(lambda: self.kiosk.end())
 
-    def words(self, server=None, uri=None, more=()):
-        """Those of the station, with another server, or another device."""
-        return [f'{STATION}/ipp-room-station', server or self.stations, 'hall', 'device',
-                uri or f'ipp://localhost:{self.device.port}/ipp/print', '--folder', f'{self.folder}/station',
-                '--cups', self.cups.door, '--names', self.table, *self.life, *more]
+    def words(self, server=None, uri=None, more=(), name='hall', cups=None):
+        """Those of the station, with another server, another device, another name, or the CUPS of another station."""
+        cups = cups or self.cups
+        return [f'{STATION}/ipp-room-station', server or self.stations, name, 'device',
+                uri or f'ipp://localhost:{self.device.port}/ipp/print', '--folder', f'{cups.folder}/station',
+                '--cups', cups.door, '--names', self.table, *self.life, *more]
+
+    def another(self, device=None, **words):
+        """A further station, with a CUPS of its own, at the same device or at another one."""
+        folder, port = f'{self.folder}/another', (device or self.device).port
+        os.mkdir(folder)
+        make_folders(folder)
+        cups = Cups(folder, port)
+        self.ends.callback(cups.end)
+        kiosk = Kiosk(self.words(uri=f'ipp://localhost:{port}/ipp/print', cups=cups, **words))
+        self.ends.callback(kiosk.end)
+        return kiosk
 
     def begin_kiosk(self, umask=0o22, **words):
         """Another station takes the place of the one that runs."""

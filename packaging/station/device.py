@@ -34,8 +34,8 @@ class Device:
     def supported(self):
         return self.printer.attributes([f'{name}-supported' for name in ticket.SYNTAXES])
 
-    def obstacle(self):
-        """Why it can't print now, or None."""
+    def obstacle(self, begins=False):
+        """Why it can't print now, or None. Where a job `begins`, no other may be printed."""
         try:
             told = self.printer.attributes(['printer-state', 'printer-state-reasons', 'printer-is-accepting-jobs'])
         except (OSError, ipp.Refused) as error:
@@ -44,6 +44,8 @@ class Device:
             return f"The printer has stopped: {', '.join(ipp.texts_of(told, 'printer-state-reasons'))}."
         if told.get('printer-is-accepting-jobs') == [False]:
             return 'The printer takes no jobs now.'
+        if begins and told.get('printer-state') == [ipp.PRINTER_PROCESSING]:
+            return 'The printer is busy.'
         return None
 
     def find(self, name):

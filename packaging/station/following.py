@@ -3,7 +3,6 @@ import time
 
 import device
 import ipp
-from server import Lost, Refused
 
 # Seconds: how long CUPS may leave a document alone, and how long its filters may take; how long the device may know nothing
 # of one that CUPS is done with, or wait for the bytes of one that nobody sends any more; and between two questions of how
@@ -83,6 +82,10 @@ class Following:
         self.handed['is_counted'] = self.handed['count'] > 0 or self.is_life_told or self.device.counts is True
         self.handed['end'] = how
 
+    def end_unsent(self):
+        """The device never gets it. It is handed over again, unless it was stopped."""
+        self.handed['end'] = 'failed' if self.is_stopped else 'unsent'
+
     def is_device_idle(self):
         try:
             return self.device.is_idle()
@@ -105,7 +108,7 @@ class Following:
         """Takes a document back that CUPS does not come to print. One that it has begun is waited for as a device is."""
         most = FILTERED if queue == 'printing' else LEFT_ALONE
         if now - self.begun > most and self.spooler.withdraw(self.name):
-            self.handed['end'] = 'unsent'
+            self.end_unsent()
         elif now - self.begun > self.printing.patience:
             self.cancel_in_queue()
             self.give_up()
@@ -113,7 +116,7 @@ class Following:
     def without_device(self, now, queue):
         """The device does not answer: it is waited for as long as the operator wants, since it may print all the same."""
         if queue == 'done' and self.spooler.withdraw(self.name):
-            self.handed['end'] = 'unsent'
+            self.end_unsent()
         elif now - self.heard > self.printing.patience:
             self.cancel_in_queue()
             if queue == 'done':
@@ -122,7 +125,7 @@ class Following:
     def give_up(self):
         """CUPS is done with the document, and the device tells nothing of it."""
         if self.spooler.withdraw(self.name):
-            self.handed['end'] = 'unsent'
+            self.end_unsent()
             return
         self.handed['count'] = self.count_of_life()
         self.end('failed')
@@ -158,11 +161,7 @@ class Following:
         obstacle = self.device.obstacle()
         if obstacle:
             self.tell(obstacle)
-        try:
-            row = self.printing.row(self.job)
-        except (Lost, Refused):
-            row = None
-        if self.is_stopped or (row is not None and row.state == 'stopping'):
+        if self.is_stopped or self.printing.is_canceled(self.job):
             self.stop()
 
     def stop(self):

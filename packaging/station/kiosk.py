@@ -123,6 +123,9 @@ class Kiosk:
             if impressions is None:
                 return True
         self.screen.say(f'Job {row.job}, {row.name} (`stop` and Enter end it):')
+        if not self.printing.wait_for_device():
+            self.screen.say('  The job is left alone.')
+            return False
         word = self.printing.release(account, row, pin if row.has_password else '', impressions)
         if word is None:
             return True

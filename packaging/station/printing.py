@@ -2,6 +2,7 @@
 that was ended in the midst of it goes on from there.
 """
 import secrets
+import time
 
 import ipp
 import ticket
@@ -9,8 +10,9 @@ from device import UNCOUNTED, log
 from following import Following, pages
 from server import MOST, Lost, Refused
 
-# How often a document is handed over, and the seconds between two tries and between two looks at the device.
-TRIES, AGAIN, LOOK = 4, 5, 0.5
+# How often a document is handed over, and the seconds between two tries and between two looks at the device. How long a device
+# that can't print is waited for before a job is released: its owner may have gone.
+TRIES, AGAIN, LOOK, MOST_WAIT = 4, 5, 0.5, 600
 # Refusals that say nothing of the job: a disk that is full, a door that the operator has set for another device.
 LATER = ('failed', 'not-your-device')
 
@@ -37,11 +39,23 @@ class Printing:
         log(UNCOUNTED)
         return 'This printer does not count what it prints. Tell the print room.'
 
+    def wait_for_device(self, job=None):
+        """Waits until the device can print a job: one that is released, or else not for long. Whether it can: somebody may type `stop`,
+        or cancel the job."""
+        told, end = None, time.monotonic() + MOST_WAIT
+        while obstacle := self.device.obstacle(begins=True):
+            if obstacle != told:
+                self.screen.say(f'  {obstacle} It is waited for.')
+                told = obstacle
+            if self.is_stop_typed(AGAIN) or (self.is_canceled(job) if job else time.monotonic() > end):
+                return False
+        return True
+
     def release(self, account, row, password, impressions):
         """Has a job released, prints and settles it. Answers the word of a refusal, or None."""
         is_released = row.state == 'pending'
         self.state.job = {'account': account, 'job': row.job, 'released': is_released, 'copies': row.copies,
-                          'impressions': impressions or row.impressions, 'of': None, 'documents': [], 'end': None}
+                          'impressions': impressions or row.impressions, 'of': None, 'documents': [], 'end': None, 'asked': False}
         try:
             self.state.save()
             word = None if is_released else self.ask_release(account, row.job, password, impressions)
@@ -97,6 +111,8 @@ class Printing:
         ends = [document['end'] for document in job['documents']]
         if 'failed' in ends or (ends and len(ends) == job['of']):
             return 'failed' if 'failed' in ends else 'done'
+        if not self.wait_for_device(job):
+            return 'failed' if job.get('asked', True) else 'elsewhere'
         try:
             documents = self.fetch(job)
         except Refused as refused:
@@ -120,12 +136,23 @@ class Printing:
         if not job['released'] and not self.is_here(job):
             raise Refused('not-released')
         which = f"{self.name} {job['account']} {job['job']}"
+        self.keep_asked(job)
         try:
             return self.server.documents(f'start {which}')
         except Refused as refused:
             if refused.word != 'not-pending':
                 raise
         return self.server.documents(f'again {which}')
+
+    def keep_asked(self, job):
+        """Keeps that the job may have been started from now on."""
+        if not job.get('asked', True):
+            job['asked'] = True
+            try:
+                self.state.save()
+            except OSError as error:
+                job['asked'] = False
+                raise Refused(f'disk: {error.strerror}') from error
 
     def wait_for_server(self):
         self.screen.say('The print server does not answer. It is asked again.')
@@ -134,6 +161,14 @@ class Printing:
     def row(self, job):
         """What the server tells of a job, or None where it has ended or another device has it."""
         return next((row for row in self.server.jobs(self.name, job['account']) if row.job == job['job']), None)
+
+    def is_canceled(self, job):
+        """Whether its owner has canceled it since it was started."""
+        try:
+            row = self.row(job)
+        except (Lost, Refused):
+            return False
+        return row is not None and row.state == 'stopping'
 
     def is_here(self, job):
         row = self.row(job)
@@ -177,6 +212,8 @@ class Printing:
             if attempt:
                 self.screen.say(f'{told}. It is handed over again.')
                 self.screen.wait(AGAIN)
+            if not self.wait_for_device(job):
+                return 'failed'
             try:
                 handed = self.permit(job, number)
             except OSError as error:
