@@ -1,4 +1,6 @@
-"""A device and a server that answer a station as they like, for tools/station-tries. Each stands before the real one."""
+"""What stands between a station and its device or server, for tools/station-tries: a device and a server that answer as they like, and
+the proxy of the server.
+"""
 import os
 import re
 import select
@@ -8,7 +10,8 @@ import struct
 import subprocess
 import threading
 
-from station_room import listens, wait_until
+from messages import TOP
+from station_room import free_port, listens, wait_until, write
 
 HEAD = b'HTTP/1.1 200 OK\r\nContent-Type: application/ipp\r\n'
 # Version 1.1, successful-ok, request 1, and the charset and language that stand first (RFC 8011 section 4.1.4).
@@ -103,7 +106,7 @@ class Tls:
 
 
 def make_certificates(folder):
-    """A device's own, of another name, another's, and two that an authority has signed: of localhost and of another host."""
+    """A device's own, of another name, another's, and those that an authority has signed: of localhost, another host, and a station."""
     def make(name, subject, *words):
         subprocess.run(['openssl', 'req', '-x509', '-newkey', 'rsa:2048', '-nodes', '-keyout', f'{folder}/{name}.key', '-out',
                         f'{folder}/{name}.pem', '-subj', f'/CN={subject}', *words], check=True, stderr=subprocess.DEVNULL)
@@ -111,10 +114,52 @@ def make_certificates(folder):
     make('other', 'PRT0001')
     make('authority', 'Authority')
     by = ['-CA', f'{folder}/authority.pem', '-CAkey', f'{folder}/authority.key']
-    for name, host in (('signed', 'localhost'), ('elsewhere', 'elsewhere.example')):
+    for name, host in (('signed', 'localhost'), ('elsewhere', 'elsewhere.example'), ('hall', 'hall')):
         make(name, host, '-addext', f'subjectAltName=DNS:{host}', '-extensions', 'usr_cert', *by)
     for name in ('own', 'authority'):
         os.chmod(f'{folder}/{name}.pem', 0o644)
+
+
+class Proxy:
+    """haproxy, with what packaging/ has for stations. A name is kept for so many seconds."""
+
+    def __init__(self, folder, seconds):
+        self.folder, self.port, self.ways = folder, free_port(), []
+        make_certificates(folder)
+        for name, files in (('room.pem', ('signed.pem', 'signed.key')), ('stations-ca.pem', ('authority.pem',))):
+            write(f'{folder}/{name}', ''.join(read(f'{folder}/{file}') for file in files))
+        text = ''.join(read(f'{TOP}/packaging/{name}.cfg') for name in ('haproxy', 'stations'))
+        text += '    server hall unix@/run/ipp-room/station-hall\n'
+        parts = re.split(r'\n(?=(?:global|defaults|frontend|backend)\b)', text)
+        wanted = ('global', 'defaults common', 'frontend stations', 'backend holders', 'backend nobody', 'backend stations')
+        text = '\n'.join(part for part in parts if part.startswith(wanted))
+        for old, new in ((r'.*\b(user haproxy|log /dev/log|log global)\b.*', ''), ('/run/ipp-room|/etc/haproxy', folder),
+                         ('expire 3m', f'expire {seconds}s'), (':6312', f'127.0.0.1:{self.port}')):
+            text = re.sub(old, new, text)
+        write(f'{folder}/haproxy.cfg', text)
+        self.process = subprocess.Popen(['haproxy', '-db', '-f', f'{folder}/haproxy.cfg'], stderr=subprocess.DEVNULL)
+        wait_until(lambda: listens(self.port), 20, 'haproxy')
+
+    def way(self, address):
+        """A socket by which the station hall comes there, with its certificate, from this address."""
+        path, here = f'{self.folder}/way-{address}', self.folder
+        door = f'OPENSSL:localhost:{self.port},bind={address},cert={here}/hall.pem,key={here}/hall.key,cafile={here}/authority.pem'
+        words = ['socat', f'UNIX-LISTEN:{path},fork,mode=666', door]
+        self.ways.append(subprocess.Popen(words, stderr=subprocess.DEVNULL, start_new_session=True))
+        wait_until(lambda: os.path.exists(path), 20, path)
+        return path
+
+    def end(self):
+        for way in self.ways:
+            os.killpg(way.pid, signal.SIGKILL)
+            way.wait()
+        self.process.kill()
+        self.process.wait()
+
+
+def read(path):
+    with open(path, encoding='utf-8') as file:
+        return file.read()
 
 
 class Server(Liar):

@@ -390,9 +390,11 @@ def make_folders(folder):
 class Room:
     """All that a try needs, up to the end of the block."""
 
-    def __init__(self, folder, has_life_count=True, pages=100000):
+    def __init__(self, folder, has_life_count=True, pages=100000, doors=()):
         self.folder, self.has_life_count, self.pages = folder, has_life_count, pages
         self.path, self.stations, self.table = f'{folder}/room.db', f'{folder}/stations', f'{folder}/names'
+        # Of stations, each for one name.
+        self.doors = doors
 
     def __enter__(self):
         # Where a part does not begin, those before it are ended.
@@ -431,11 +433,14 @@ class Room:
                 uri or f'ipp://localhost:{self.device.port}/ipp/print', '--folder', f'{cups.folder}/station',
                 '--cups', cups.door, '--names', self.table, *self.life, *more]
 
-    def another(self, device=None, **words):
-        """A further station, with a CUPS of its own, at the same device or at another one."""
+    def another(self, device=None, card=False, **words):
+        """A further station, with a CUPS of its own, at the same device or at another one. It may have a copy of the first one's card."""
         folder, port = f'{self.folder}/another', (device or self.device).port
         os.mkdir(folder)
         make_folders(folder)
+        if card:
+            shutil.copy(f'{self.folder}/station/state.json', f'{folder}/station')
+            shutil.chown(f'{folder}/station/state.json', 'nobody')
         cups = Cups(folder, port)
         self.ends.callback(cups.end)
         kiosk = Kiosk(self.words(uri=f'ipp://localhost:{port}/ipp/print', cups=cups, **words))
@@ -449,7 +454,8 @@ class Room:
 
     def start(self):
         """Begins `serve`, or begins it anew where it was killed."""
-        self.serving = Serving(self.path, self.stations)
+        options = [word for name in self.doors for word in ('--station', f'{name}={self.folder}/station-{name}')]
+        self.serving = Serving(self.path, self.stations, options=options)
         self.serving.__enter__()
         os.chmod(self.stations, 0o666)
 

@@ -35,18 +35,21 @@ class Following:
             self.tell(device.silence(error))
             self.missing = None
             self.without_device(now, queue)
-            return
-        self.heard = now
-        if printed is None:
-            self.without_record(now, queue)
         else:
-            self.missing = None
-            self.note(printed)
-            self.end_printed(printed)
-            self.end_stalled(now, queue, printed)
+            self.heard = now
+            self.with_device(now, queue, printed)
         if self.handed['end'] is None and now - self.asked >= ASK:
             self.asked = now
-            self.ask_around()
+            self.ask_around(now)
+
+    def with_device(self, now, queue, printed):
+        if printed is None:
+            self.without_record(now, queue)
+            return
+        self.missing = None
+        self.note(printed)
+        self.end_printed(printed)
+        self.end_stalled(now, queue, printed)
 
     def state_in_queue(self):
         """What CUPS does with the document: it is `printing`, `waiting`, `done`, or None where CUPS does not answer."""
@@ -156,9 +159,9 @@ class Following:
             self.stalled = None
             self.device.cancel(printed.number)
 
-    def ask_around(self):
-        """Whether the device waits for somebody, and whether the owner has canceled the job."""
-        obstacle = self.device.obstacle()
+    def ask_around(self, now):
+        """Whether a device that answers waits for somebody, and whether the owner has canceled the job."""
+        obstacle = self.device.obstacle() if self.heard == now else None
         if obstacle:
             self.tell(obstacle)
         if self.is_stopped or self.printing.is_canceled(self.job):

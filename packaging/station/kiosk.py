@@ -15,7 +15,8 @@ REFUSALS = {'password': 'The PIN is wrong.', 'incomplete': 'Its documents have n
             'impressions-unknown': 'Nobody has told how many pages it has.', 'no-job': 'It is not there any more.',
             'device-off': 'The print room has turned this printer off.',
             'no-device': 'The print room does not know this printer.',
-            'not-your-device': 'The print server does not let this station use this printer.',
+            'not-your-device': 'The print server does not let this station use this printer. Another one may have its name.',
+            'not-held': 'It was released elsewhere just now.',
             'failed': 'The print server could not do it. Try again.'}
 
 
@@ -35,6 +36,8 @@ class Kiosk:
                 self.serve(name.strip())
                 self.screen.say('Thank you. Press Enter.')
                 self.screen.pause(READS)
+            else:
+                self.printing.renew()
 
     def serve(self, name):
         """One person, up to the end."""

@@ -47,9 +47,20 @@ class Printing:
             if obstacle != told:
                 self.screen.say(f'  {obstacle} It is waited for.')
                 told = obstacle
+            if not job:
+                self.renew()
             if self.is_stop_typed(AGAIN) or (self.is_canceled(job) if job else time.monotonic() > end):
                 return False
         return True
+
+    def renew(self):
+        """Is heard by the server, also where nobody comes: a proxy keeps a name for the station that it has heard."""
+        try:
+            if self.server.ask(f'list {self.name} {self.name}') == 'not-your-device':
+                log(f'the print server does not let this station be {self.name}: another one is, or has to be')
+        except Lost:
+            # Whoever releases a job is told.
+            pass
 
     def release(self, account, row, password, impressions):
         """Has a job released, prints and settles it. Answers the word of a refusal, or None."""
@@ -76,8 +87,7 @@ class Printing:
         except Lost:
             return None
         self.state.job['released'] = word.startswith('ok ')
-        # A job that is not held may be one whose release was told to nobody.
-        return None if word.startswith('ok ') or word == 'not-held' else word
+        return None if self.state.job['released'] else word
 
     def carry_on(self):
         """Prints what is not printed yet of the job that the state has, if any, and settles it."""
@@ -126,36 +136,39 @@ class Printing:
             try:
                 return self.fetch_once(job)
             except Lost:
-                pass
+                self.wait_for_server()
             except Refused as refused:
                 if refused.word not in LATER:
                     raise
-            self.wait_for_server()
+                self.wait_for_server(f'says {refused.word}')
 
     def fetch_once(self, job):
         if not job['released'] and not self.is_here(job):
             raise Refused('not-released')
         which = f"{self.name} {job['account']} {job['job']}"
-        self.keep_asked(job)
+        was_asked = self.keep_asked(job)
         try:
             return self.server.documents(f'start {which}')
         except Refused as refused:
-            if refused.word != 'not-pending':
+            # Where this station has not asked before, another one has started the job.
+            if refused.word != 'not-pending' or not was_asked:
                 raise
         return self.server.documents(f'again {which}')
 
     def keep_asked(self, job):
-        """Keeps that the job may have been started from now on."""
-        if not job.get('asked', True):
-            job['asked'] = True
-            try:
-                self.state.save()
-            except OSError as error:
-                job['asked'] = False
-                raise Refused(f'disk: {error.strerror}') from error
+        """Keeps that the job may have been started from now on. Whether that was so before."""
+        if job.get('asked', True):
+            return True
+        job['asked'] = True
+        try:
+            self.state.save()
+        except OSError as error:
+            job['asked'] = False
+            raise Refused(f'disk: {error.strerror}') from error
+        return False
 
-    def wait_for_server(self):
-        self.screen.say('The print server does not answer. It is asked again.')
+    def wait_for_server(self, word='does not answer'):
+        self.screen.say(f'The print server {word}. It is asked again.')
         self.screen.wait(AGAIN)
 
     def row(self, job):
@@ -284,10 +297,10 @@ class Printing:
                 self.screen.say(f'{how}: {pages(count)}. Units charged: {charged}, left: {left}.')
                 return
             except Lost:
-                pass
+                self.wait_for_server()
             except Refused as refused:
                 if refused.word not in LATER:
                     # It was settled before, by this station or by hand.
                     self.screen.say(f'{how}: {pages(count)} ({refused.word}).')
                     return
-            self.wait_for_server()
+                self.wait_for_server(f'says {refused.word}')

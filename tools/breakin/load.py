@@ -118,6 +118,8 @@ def half_lines(house):
     house.machine.run("test ! -e /etc/haproxy/stations.cfg || grep -q ' studio ' /etc/haproxy/stations.cfg || "
                       "{ echo '    server studio unix@/run/ipp-room/stations' >> /etc/haproxy/stations.cfg; systemctl reload haproxy; }")
     wait_until(lambda: speak(other).startswith(b'jobs '), 60, 'the other station')
+    # A name is one address's, until that was silent for 3 minutes.
+    house.machine.run("echo '@1 clear table holders' | socat - /run/haproxy/master")
     return beside(house, ('lines', 150, STRANGERS[1], other))
 
 
