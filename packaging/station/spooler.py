@@ -64,6 +64,9 @@ class Spooler:
         """Gives a document to CUPS, with its copies and its ticket. Answers CUPS's number of it."""
         asked = [(ipp.NAME, 'job-name', [name]), (ipp.FORMAT, 'document-format', [document.format])]
         of_job = [(ipp.INTEGER, 'copies', [document.copies]), *ticket.attributes(chosen)]
+        if chosen.get('sides') != 'one-sided':
+            # From the last page to the first CUPS would put a blank side before an odd number of them.
+            of_job.append((ipp.KEYWORD, 'outputorder', ['normal']))
         groups = self.queue.ask(ipp.PRINT_JOB, asked, of_job, document.data)
         return next((ipp.number_of(job, 'job-id') for tag, job in groups if tag == ipp.JOB_GROUP), None)
 
