@@ -15,8 +15,8 @@ def pages(count):
 
 
 class Following:
-    """Looks at one document, time after time. Its `end` in the state is then `done`, `failed`, or `unsent` where the device
-    can never get it."""
+    """Looks at one document, time after time. Its `end` in the state is then `done`, `failed`, or `unprinted` where nothing came out,
+    and nothing will."""
 
     def __init__(self, printing, job, handed):
         self.printing, self.job, self.handed, self.name = printing, job, handed, handed['name']
@@ -79,15 +79,17 @@ class Following:
                 return
             self.handed['count'] = self.count_of_life()
         self.end('done' if printed.state == ipp.COMPLETED else 'failed')
+        if printed.state == ipp.ABORTED and self.handed['is_counted'] and self.handed['count'] == 0:
+            self.end_unprinted()
 
     def end(self, how):
         """The document has ended so. A count of 0 is one that the device did not keep, unless it is known to count."""
         self.handed['is_counted'] = self.handed['count'] > 0 or self.is_life_told or self.device.counts is True
         self.handed['end'] = how
 
-    def end_unsent(self):
-        """The device never gets it. It is handed over again, unless it was stopped."""
-        self.handed['end'] = 'failed' if self.is_stopped else 'unsent'
+    def end_unprinted(self):
+        """Nothing came out, and nothing will. It may be printed another time, unless it was stopped."""
+        self.handed['end'] = 'failed' if self.is_stopped else 'unprinted'
 
     def is_device_idle(self):
         try:
@@ -111,7 +113,7 @@ class Following:
         """Takes a document back that CUPS does not come to print. One that it has begun is waited for as a device is."""
         most = FILTERED if queue == 'printing' else LEFT_ALONE
         if now - self.begun > most and self.spooler.withdraw(self.name):
-            self.end_unsent()
+            self.end_unprinted()
         elif now - self.begun > self.printing.patience:
             self.cancel_in_queue()
             self.give_up()
@@ -119,7 +121,7 @@ class Following:
     def without_device(self, now, queue):
         """The device does not answer: it is waited for as long as the operator wants, since it may print all the same."""
         if queue == 'done' and self.spooler.withdraw(self.name):
-            self.end_unsent()
+            self.end_unprinted()
         elif now - self.heard > self.printing.patience:
             self.cancel_in_queue()
             if queue == 'done':
@@ -128,7 +130,7 @@ class Following:
     def give_up(self):
         """CUPS is done with the document, and the device tells nothing of it."""
         if self.spooler.withdraw(self.name):
-            self.end_unsent()
+            self.end_unprinted()
             return
         self.handed['count'] = self.count_of_life()
         self.end('failed')

@@ -17,6 +17,7 @@ REFUSALS = {'password': 'The PIN is wrong.', 'incomplete': 'Its documents have n
             'no-device': 'The print room does not know this printer.',
             'not-your-device': 'The print server does not let this station use this printer. Another one may have its name.',
             'not-held': 'It was released elsewhere just now.',
+            'released': 'It is released, and its PIN is not known here any more. Hold it, and release it again.',
             'failed': 'The print server could not do it. Try again.'}
 
 
@@ -29,6 +30,7 @@ class Kiosk:
         """Serves people until the terminal ends."""
         while True:
             self.printing.tidy()
+            self.printing.end_aside()
             self.screen.clear()
             self.screen.say(f'{self.name}: release your jobs here.')
             name = self.screen.ask('Account: ', THINKS)
@@ -80,7 +82,7 @@ class Kiosk:
             unknown = f'There is no account {account}.'
             self.screen.say(unknown if refused.word == 'no-account' else REFUSALS.get(refused.word, refused.word))
             return []
-        rows = [row for row in rows if row.state in ('held', 'pending')]
+        rows = [row for row in rows if row.state in ('held', 'pending') or self.printing.is_aside(account, row)]
         if not rows:
             self.screen.say('No job waits.')
         return rows

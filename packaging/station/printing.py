@@ -23,6 +23,8 @@ class Printing:
     def __init__(self, name, server, spooler, printer, state, screen, patience):
         self.name, self.server, self.spooler, self.device = name, server, spooler, printer
         self.state, self.screen, self.patience = state, screen, patience
+        # Those of the jobs that were released: on the disk there is none.
+        self.pins = {}
 
     def obstacle(self):
         """Why nothing can be printed now, or None."""
@@ -64,18 +66,24 @@ class Printing:
 
     def release(self, account, row, password, impressions):
         """Has a job released, prints and settles it. Answers the word of a refusal, or None."""
-        is_released = row.state == 'pending'
+        is_released = row.state != 'held'
+        if is_released and row.has_password and self.pins.get((account, row.job)) != password:
+            # The server asks for no PIN any more.
+            return 'password' if (account, row.job) in self.pins else 'released'
+        aside, self.state.aside = self.state.aside, [kept for kept in self.state.aside if kept[:2] != [account, row.job]]
         self.state.job = {'account': account, 'job': row.job, 'released': is_released, 'copies': row.copies,
-                          'impressions': impressions or row.impressions, 'of': None, 'documents': [], 'end': None, 'asked': False}
+                          'impressions': impressions or row.impressions, 'of': None, 'documents': [], 'end': None,
+                          'asked': row.state == 'processing', 'has_pin': row.has_password}
         try:
             self.state.save()
             word = None if is_released else self.ask_release(account, row.job, password, impressions)
         except OSError as error:
             word = f'disk: {error.strerror}'
         if word:
-            self.state.job = None
+            self.state.job, self.state.aside = None, aside
             self.state.save_if_possible()
             return word
+        self.pins[account, row.job] = password
         self.carry_on()
         return None
 
@@ -98,7 +106,9 @@ class Printing:
         if job['end'] is None:
             job['end'] = self.print_rest(job)
             self.state.save_if_possible()
-        if job['end'] != 'elsewhere':
+        if job['end'] == 'unprinted':
+            self.set_aside(job)
+        elif job['end'] != 'elsewhere':
             self.settle(job)
         self.state.leftovers += [[document['name'], document['number']] for document in job['documents']]
         self.state.job = None
@@ -112,12 +122,32 @@ class Printing:
             self.state.leftovers = left
             self.state.save_if_possible()
 
+    def set_aside(self, job):
+        """Keeps a started job of which nothing came out, so that it can be chosen again here."""
+        self.state.aside.append([job['account'], job['job'], time.time(), job.get('has_pin', True)])
+        self.screen.say('Nothing came out, and nothing is charged. It waits here for another try.')
+
+    def is_aside(self, account, row):
+        return row.state == 'processing' and [account, row.job] in [kept[:2] for kept in self.state.aside]
+
+    def end_aside(self):
+        """Settles those jobs set aside that were canceled, that have waited too long, or whose PIN is not known any more."""
+        for kept in list(self.state.aside):
+            account, number, since, has_pin = kept
+            job = {'account': account, 'job': number, 'documents': [], 'end': 'failed', 'impressions': None, 'copies': 1}
+            if self.is_canceled(job) or time.time() - since > self.patience or (has_pin and (account, number) not in self.pins):
+                self.settle(job)
+                self.state.aside.remove(kept)
+                self.state.save_if_possible()
+
     def print_rest(self, job):
-        """How the job ended: `done`, `failed`, or `elsewhere` where the server has nothing of it for this device."""
+        """How the job ended: `done`, `failed`, `unprinted` where nothing came out, and nothing will, or `elsewhere` where the server
+        has nothing of it for this device."""
         number = f"{job['account']}'s job {job['job']}"
         for handed in [document for document in job['documents'] if document['end'] is None]:
             self.screen.say(f'{number} goes on.')
-            self.follow(job, handed)
+            if self.follow(job, handed) == 'unprinted' and handed['seen']:
+                return 'failed' if job['documents'] else 'unprinted'
         ends = [document['end'] for document in job['documents']]
         if 'failed' in ends or (ends and len(ends) == job['of']):
             return 'failed' if 'failed' in ends else 'done'
@@ -204,8 +234,11 @@ class Printing:
         job['of'] = len(documents)
         for number in range(len(job['documents']), len(documents)):
             end = self.print_document(job, number, documents[number], tickets[number])
-            if end == 'failed':
-                return 'failed'
+            if end == 'unprinted' and job['documents']:
+                # What stands before it came out.
+                end = 'failed'
+            if end != 'done':
+                return end
         return 'done'
 
     def supported(self):
@@ -219,13 +252,12 @@ class Printing:
                     return None
 
     def print_document(self, job, number, document, chosen):
-        """How a document ended: `done` or `failed`."""
+        """How a document ended: `done`, `failed` or `unprinted`."""
         told = 'CUPS does not take it'
         for attempt in range(TRIES):
             if attempt:
                 self.screen.say(f'{told}. It is handed over again.')
-                self.screen.wait(AGAIN)
-            if not self.wait_for_device(job):
+            if (attempt and self.is_stop_typed(AGAIN)) or not self.wait_for_device(job):
                 return 'failed'
             try:
                 handed = self.permit(job, number)
@@ -235,16 +267,18 @@ class Printing:
             try:
                 handed['number'] = self.spooler.hand(handed['name'], document, chosen)
                 self.state.save_if_possible()
+                told = 'CUPS has not printed it'
             except ipp.Refused as refused:
                 told = f"This station's queue: {refused}"
             except OSError as error:
                 # It may have it nevertheless.
                 told = f"This station's CUPS: {error}"
             end = self.follow(job, handed)
-            if end != 'unsent':
+            if end != 'unprinted' or handed['seen']:
+                # What the device has had its owner chooses again, or does not.
                 return end
         self.screen.say(f'{told}. Nothing more of it is printed.')
-        return 'failed'
+        return 'unprinted'
 
     def permit(self, job, number):
         """Allows the next document to be printed, under a name that no other ever had."""
@@ -263,13 +297,13 @@ class Printing:
 
     def follow(self, job, handed):
         """Waits until a document that was handed to CUPS has ended, and keeps what the device counts. Answers how it ended:
-        `done`, `failed`, or `unsent` where the device will never get it."""
+        `done`, `failed`, or `unprinted` where nothing came out, and nothing will."""
         following = Following(self, job, handed)
         while handed['end'] is None:
             following.look()
             if handed['end'] is None and self.is_stop_typed(LOOK):
                 following.stop()
-        if handed['end'] == 'unsent':
+        if handed['end'] == 'unprinted':
             job['documents'].remove(handed)
             self.state.leftovers.append([handed['name'], handed['number']])
         self.state.save_if_possible()
@@ -288,6 +322,7 @@ class Printing:
 
     def settle(self, job):
         """Tells the server what the device has counted, until that is answered."""
+        self.pins.pop((job['account'], job['job']), None)
         count = min(MOST, self.count(job))
         line = f"settle {self.name} {job['account']} {job['job']} {count} {job['end']}"
         how = 'Printed' if job['end'] == 'done' else 'It has failed, or was stopped'

@@ -1,4 +1,4 @@
-"""What a station keeps on its disk: the job that it prints, what CUPS has still to remove, and who guessed PINs."""
+"""What a station keeps on its disk: the job that it prints, those set aside, what CUPS has still to remove, and who guessed PINs."""
 import contextlib
 import fcntl
 import json
@@ -22,7 +22,7 @@ class State:
         # One station has the folder; the lock goes with its process.
         self.folder = os.open(folder, os.O_RDONLY)
         fcntl.flock(self.folder, fcntl.LOCK_EX | fcntl.LOCK_NB)
-        self.job, self.leftovers, self.guesses = None, [], {}
+        self.job, self.leftovers, self.guesses, self.aside = None, [], {}, []
         self.read()
 
     def read(self):
@@ -30,6 +30,8 @@ class State:
             with open(self.path, encoding='utf-8', opener=open_own) as file:
                 kept = json.load(file)
             self.job, self.leftovers, self.guesses = kept['job'], kept['leftovers'], kept['guesses']
+            # Earlier versions have none.
+            self.aside = kept.get('aside', [])
         except FileNotFoundError:
             pass
         except (ValueError, KeyError, TypeError) as error:
@@ -37,7 +39,7 @@ class State:
 
     def save(self):
         """Returns once it is on the disk."""
-        text = json.dumps({'job': self.job, 'leftovers': self.leftovers, 'guesses': self.guesses}, indent=1)
+        text = json.dumps({'job': self.job, 'leftovers': self.leftovers, 'guesses': self.guesses, 'aside': self.aside}, indent=1)
         with contextlib.suppress(FileNotFoundError):
             # Of a run that was ended in the midst of it.
             os.remove(f'{self.path}.new')
