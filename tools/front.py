@@ -171,11 +171,8 @@ class Front(Cupsd):
                 os.remove(path.replace(STOCK, f'{folder}/bin'))
         for name in ('backend', 'filter', 'room'):
             shutil.copytree(f'{PACKAGE}/{name}', f'{folder}/bin/{name}', dirs_exist_ok=True)
-        with open(f'{folder}/bin/room/names.py', 'r+') as file:
-            text = file.read().replace("'/etc/ipp-room/names'", f"'{folder}/names'")
-            file.seek(0)
-            file.write(text)
-            file.truncate()
+        with open(f'{TOP}/packaging/names/names.py') as file, open(f'{folder}/bin/room/names.py', 'w') as copy:
+            copy.write(file.read().replace("'/etc/ipp-room/names'", f"'{folder}/names'"))
         self.put_table(table)
         self.device = (f'room://{place}' if '/' in str(place) else f'room://127.0.0.1:{place}/') + '?pin=required' * needs_pin
 

@@ -321,7 +321,9 @@ class Kiosk:
         master, terminal = pty.openpty()
         self.path = os.ttyname(terminal)
         nobody = pwd.getpwnam('nobody')
-        environment = {'PATH': '/usr/bin:/bin', 'TERM': 'linux', 'LANG': 'C.UTF-8', 'PYTHONDONTWRITEBYTECODE': '1'}
+        # The package has names.py beside the station.
+        environment = {'PATH': '/usr/bin:/bin', 'TERM': 'linux', 'LANG': 'C.UTF-8', 'PYTHONDONTWRITEBYTECODE': '1',
+                       'PYTHONPATH': f'{TOP}/packaging/names'}
         self.process = subprocess.Popen(self.words, stdin=terminal, stdout=terminal, stderr=terminal, user=nobody.pw_uid,
                                         group=nobody.pw_gid, extra_groups=[], start_new_session=True, env=environment,
                                         umask=self.umask, preexec_fn=limit)
