@@ -22,6 +22,8 @@ from messages import CREATE_JOB, MOMENT, SEND_DOCUMENT, TOP, answer_to, attribut
 from serving import Serving, create, run
 
 STATION = f'{TOP}/packaging/station'
+# The package has names.py beside the station.
+os.environ['PYTHONPATH'] = f'{TOP}/packaging/names'
 # Seconds: an impression of the device, and what a person waits for the station at most.
 IMPRESSION, MOST_WAIT = 0.1, 150
 
@@ -321,9 +323,8 @@ class Kiosk:
         master, terminal = pty.openpty()
         self.path = os.ttyname(terminal)
         nobody = pwd.getpwnam('nobody')
-        # The package has names.py beside the station.
         environment = {'PATH': '/usr/bin:/bin', 'TERM': 'linux', 'LANG': 'C.UTF-8', 'PYTHONDONTWRITEBYTECODE': '1',
-                       'PYTHONPATH': f'{TOP}/packaging/names'}
+                       'PYTHONPATH': os.environ['PYTHONPATH']}
         self.process = subprocess.Popen(self.words, stdin=terminal, stdout=terminal, stderr=terminal, user=nobody.pw_uid,
                                         group=nobody.pw_gid, extra_groups=[], start_new_session=True, env=environment,
                                         umask=self.umask, preexec_fn=limit)
