@@ -8,7 +8,7 @@ use sqlite::{Constraint, Error, ErrorCode};
 use std::alloc::{AllocError, AllocFailed};
 use thiserror::Error as ErrorTrait;
 
-/// Why a statement on the tables failed. Nothing is changed then.
+/// Why a statement on the tables failed. Where the connection is open, nothing is changed then.
 #[derive(Clone, Copy, Debug, PartialEq, Eq, ErrorTrait)]
 pub enum TableFault {
     /// It was refused, or the disk failed.

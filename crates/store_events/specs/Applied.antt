@@ -85,7 +85,7 @@ pub record Applies
   pub crash : HasCleanDisk new → HasSchema old.now → (found : Trees) → new.may_leave found
       → old.may_leave found
       ⊎ ((after : Database) × (after.trees ≡ found) × IsDone now e old.now after)
-  -- after a fault nothing has changed
+  -- after a fault nothing has changed, where the connection is open
   pub unchanged : HasCleanDisk new → HasSchema old.now
       → OnErr told (IsTrue new.is_open → new.now ≡ old.now)
   pub damaged : HasCleanDisk new → HasSchema old.now → told ≡ Err Damaged

@@ -6,7 +6,7 @@ ghost use Rattle.store_rounds.specs.Faults.{store_fault};
 use rows_tables::TableFault;
 use thiserror::Error as ErrorTrait;
 
-/// Why a call on the store failed. Nothing is changed then.
+/// Why a call on the store failed. Where the connection is open, nothing is changed then.
 #[derive(Clone, Copy, Debug, PartialEq, Eq, ErrorTrait)]
 pub enum StoreFault {
     /// A statement was refused, or the disk failed.
