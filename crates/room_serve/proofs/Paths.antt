@@ -15,10 +15,10 @@ use Rattle.room_serve.specs.Paths.{IsDigit, IsJob, IsName, IsNameByte, IsPathOf,
 
 -- ---- bytes
 
-within : (low high c : ℕ) → (nat_le low c && nat_le c high) ≡ true → (low ≤ c) × (c ≤ high)
+pub within : (low high c : ℕ) → (nat_le low c && nat_le c high) ≡ true → (low ≤ c) × (c ≤ high)
 within low high c is = let both = and_parts (nat_le low c) (nat_le c high) is in (leb-true low c both.0, leb-true c high both.1)
 
-within_again : (low high c : ℕ) → (low ≤ c) × (c ≤ high) → (nat_le low c && nat_le c high) ≡ true
+pub within_again : (low high c : ℕ) → (low ≤ c) × (c ≤ high) → (nat_le low c && nat_le c high) ≡ true
 within_again low high c is = and_from (nat_le low c) (nat_le c high) (le-leb low c is.0) (le-leb c high is.1)
 
 byte_is : (c : ℕ) → is_name_byte c ≡ true → IsNameByte c
@@ -37,11 +37,11 @@ byte_again c (inl letter) = or_left (is_letter c || is_ascii_digit c) (c == 45) 
 byte_again c (inr (inl digit)) = or_left (is_letter c || is_ascii_digit c) (c == 45) (or_right (is_letter c) (is_ascii_digit c) (within_again 48 57 c digit))
 byte_again c (inr (inr dash)) = or_right (is_letter c || is_ascii_digit c) (c == 45) (eq-eqb c 45 dash)
 
-all_are : (P : ℕ → Type 0) (test : ℕ → Bool) → ((c : ℕ) → test c ≡ true → P c) → (bytes : List ℕ) → list_all test bytes ≡ true → AllByRecursion P bytes
+pub all_are : (P : ℕ → Type 0) (test : ℕ → Bool) → ((c : ℕ) → test c ≡ true → P c) → (bytes : List ℕ) → list_all test bytes ≡ true → AllByRecursion P bytes
 all_are P test each [] all = tt
 all_are P test each (c ∷ bytes) all = let both = and_parts (test c) (list_all test bytes) all in (each c both.0, all_are P test each bytes both.1)
 
-all_again : (P : ℕ → Type 0) (test : ℕ → Bool) → ((c : ℕ) → P c → test c ≡ true) → (bytes : List ℕ) → AllByRecursion P bytes → list_all test bytes ≡ true
+pub all_again : (P : ℕ → Type 0) (test : ℕ → Bool) → ((c : ℕ) → P c → test c ≡ true) → (bytes : List ℕ) → AllByRecursion P bytes → list_all test bytes ≡ true
 all_again P test each [] all = refl
 all_again P test each (c ∷ bytes) all = and_from (test c) (list_all test bytes) (each c all.0) (all_again P test each bytes all.1)
 
@@ -50,7 +50,7 @@ all_again P test each (c ∷ bytes) all = and_from (test c) (list_all test bytes
 not_zero : (n : ℕ) → suc n ≢ 0
 not_zero n = omega arith
 
-name_is : (bytes : List ℕ) → is_name bytes ≡ true → IsName bytes
+pub name_is : (bytes : List ℕ) → is_name bytes ≡ true → IsName bytes
 name_is [] is = absurd (false≢true is)
 name_is (c ∷ others) is = by ((length (c ∷ others) == 0) || nat_lt 32 (length (c ∷ others))) refl is
   where
@@ -62,7 +62,7 @@ name_is (c ∷ others) is = by ((length (c ∷ others) == 0) || nat_lt 32 (lengt
         let short = or_parts (length (c ∷ others) == 0) (nat_lt 32 (length (c ∷ others))) fits in
         (within 97 122 c both.0, all_are IsNameByte is_name_byte byte_is others rest.1, ltb-false 32 (length (c ∷ others)) short.1)
 
-name_again : (bytes : List ℕ) → IsName bytes → is_name bytes ≡ true
+pub name_again : (bytes : List ℕ) → IsName bytes → is_name bytes ≡ true
 name_again [] is = absurd is
 name_again (c ∷ others) is =
     cond-false ((length (c ∷ others) == 0) || nat_lt 32 (length (c ∷ others))) false (is_letter c && (is_name_byte c && list_all is_name_byte others))
@@ -72,11 +72,11 @@ name_again (c ∷ others) is =
 
 -- ---- what stands before a mark, and from it on
 
-abbrev Begins : (mark : ℕ) → List ℕ → Type 0
+abbrev pub Begins : (mark : ℕ) → List ℕ → Type 0
 Begins mark [] = Unit {0}
 Begins mark (c ∷ rest) = c ≡ mark
 
-abbrev from : (mark : ℕ) → List ℕ → List ℕ
+abbrev pub from : (mark : ℕ) → List ℕ → List ℕ
 from mark bytes = drop (length (before mark bytes)) bytes
 
 before_next : (mark c : ℕ) (bytes : List ℕ) → before mark (c ∷ bytes) ≡ cond (c == mark) [] (c ∷ before mark bytes)
@@ -86,12 +86,12 @@ before_next mark c bytes = by (c == mark)
     by true = refl
     by false = ap (λ (n : ℕ). take n (c ∷ bytes)) (one-add (position_or_len (λ x. x == mark) bytes))
 
-whole : (mark : ℕ) (bytes : List ℕ) → before mark bytes ++ from mark bytes ≡ bytes
+pub whole : (mark : ℕ) (bytes : List ℕ) → before mark bytes ++ from mark bytes ≡ bytes
 whole mark bytes =
     ap (λ (n : ℕ). before mark bytes ++ drop n bytes) (length-prefix_len (λ (x : ℕ). not (x == mark)) bytes)
     ∙ take-append-drop (position_or_len (λ x. x == mark) bytes) bytes
 
-from_begins : (mark : ℕ) (bytes : List ℕ) → Begins mark (from mark bytes)
+pub from_begins : (mark : ℕ) (bytes : List ℕ) → Begins mark (from mark bytes)
 from_begins mark [] = tt
 from_begins mark (c ∷ bytes) = subst (λ (front : List ℕ). Begins mark (drop (length front) (c ∷ bytes))) (sym (before_next mark c bytes)) (by (from_begins mark bytes) (c == mark) refl)
   where
@@ -100,12 +100,12 @@ from_begins mark (c ∷ bytes) = subst (λ (front : List ℕ). Begins mark (drop
     by later false isnt = later
 
 -- it stands before what begins with it
-before_begun : (mark : ℕ) (bytes : List ℕ) → Begins mark bytes → before mark bytes ≡ []
+pub before_begun : (mark : ℕ) (bytes : List ℕ) → Begins mark bytes → before mark bytes ≡ []
 before_begun mark [] begins = refl
 before_begun mark (c ∷ bytes) begins = before_next mark c bytes ∙ cond-true (c == mark) [] (c ∷ before mark bytes) (eq-eqb c mark begins)
 
 -- and behind what has none
-before_past : (mark : ℕ) (front rest : List ℕ) → list_any (λ c. c == mark) front ≡ false → before mark (front ++ rest) ≡ front ++ before mark rest
+pub before_past : (mark : ℕ) (front rest : List ℕ) → list_any (λ c. c == mark) front ≡ false → before mark (front ++ rest) ≡ front ++ before mark rest
 before_past mark [] rest free = refl
 before_past mark (c ∷ front) rest free =
     let both = or_parts (c == mark) (list_any (λ x. x == mark) front) free in
@@ -119,17 +119,17 @@ all_free : (P : ℕ → Type 0) (mark : ℕ) → ((c : ℕ) → P c → c ≢ ma
 all_free P mark apart [] all = refl
 all_free P mark apart (c ∷ bytes) all = or_from (c == mark) (list_any (λ x. x == mark) bytes) (ne_eqb c mark (apart c all.0)) (all_free P mark apart bytes all.1)
 
-name_free : (mark : ℕ) → ((c : ℕ) → IsNameByte c → c ≢ mark) → (account : List ℕ) → IsName account → list_any (λ c. c == mark) account ≡ false
+pub name_free : (mark : ℕ) → ((c : ℕ) → IsNameByte c → c ≢ mark) → (account : List ℕ) → IsName account → list_any (λ c. c == mark) account ≡ false
 name_free mark apart [] is = absurd is
 name_free mark apart (c ∷ others) is = all_free IsNameByte mark apart (c ∷ others) (inl is.0, is.1)
 
-no_slash : (c : ℕ) → IsNameByte c → c ≢ 47
+pub no_slash : (c : ℕ) → IsNameByte c → c ≢ 47
 no_slash c is = omega arith
 
-no_mark : (c : ℕ) → IsNameByte c → c ≢ 63
+pub no_mark : (c : ℕ) → IsNameByte c → c ≢ 63
 no_mark c is = omega arith
 
-digit_apart : (c : ℕ) → IsDigit c → c ≢ 63
+pub digit_apart : (c : ℕ) → IsDigit c → c ≢ 63
 digit_apart c is = omega arith
 
 slash_apart : (c : ℕ) → c ≡ 47 → c ≢ 63
@@ -168,7 +168,7 @@ mark_again (c ∷ rest) is = is
 
 -- ---- from the account to the path
 
-behind_is : (front bytes rest : List ℕ) → behind front bytes ≡ Some rest → bytes ≡ front ++ rest
+pub behind_is : (front bytes rest : List ℕ) → behind front bytes ≡ Some rest → bytes ≡ front ++ rest
 behind_is front bytes rest said =
     let it = cond_some (bytes_eq (take (length front) bytes) front) (drop (length front) bytes) rest said in
     sym (take-append-drop (length front) bytes) ∙ ap₂ (λ (a b : List ℕ). a ++ b) ((bytes_eq-Decides (take (length front) bytes) front).0 it.0) it.1
@@ -212,7 +212,7 @@ named_by_path target account said = option_and_then_some queue_in (behind queues
 
 -- ---- from the path to the account
 
-behind_again : (front rest : List ℕ) → behind front (front ++ rest) ≡ Some rest
+pub behind_again : (front rest : List ℕ) → behind front (front ++ rest) ≡ Some rest
 behind_again front rest =
     ap (λ (b : Bool). cond b (Some (drop (length front) (front ++ rest))) None) ((bytes_eq-Decides (take (length front) (front ++ rest)) front).1 (take_at front rest (length front) refl))
     ∙ ap (λ (l : List ℕ). Some l) (drop_at front rest (length front) refl)
