@@ -12,10 +12,10 @@ PASSWORD = 'secret'
 class Proxy:
     """haproxy, up to the end of the block, before these ports of clients and pages. `users` sign in by one password, `operators` too.
 
-    `port` is that of pages, `clients` that of clients.
+    `port` is that of pages, `clients` that of clients. With `judge`, the socket of a judge, names and passwords are a directory's.
     """
 
-    def __init__(self, folder, clients, pages, users, operators=(), table='rule same\n'):
+    def __init__(self, folder, clients, pages, users, operators=(), table='rule same\n', judge=None):
         self.folder, self.table, self.port, self.clients, self.stations = folder, f'{folder}/names', free_port(), free_port(), free_port()
         words = ['openssl', 'req', '-x509', '-newkey', 'rsa:2048', '-nodes', '-keyout', f'{folder}/room.pem.key', '-out', f'{folder}/room.pem',
                  '-subj', '/CN=printroom.example']
@@ -29,7 +29,7 @@ class Proxy:
                          ('unix@/run/ipp-room/clients', f'127.0.0.1:{clients}'), ('    user haproxy\n', '')):
             want(old in text, f'{old} is not in it')
             text = text.replace(old, new)
-        write(f'{folder}/haproxy.cfg', text + userlist(users, operators))
+        write(f'{folder}/haproxy.cfg', (asking(judge) if judge else '') + text + userlist(users, operators))
         self.put_table(table)
 
     def put_table(self, table):
@@ -67,6 +67,16 @@ class Proxy:
     def got(self):
         with open(f'{self.folder}/got', encoding='utf-8') as file:
             return file.read()
+
+
+def asking(judge):
+    """The lines by which a judge is asked."""
+    with open(f'{TOP}/packaging/directory/directory.cfg', encoding='utf-8') as file:
+        text = file.read()
+    for old, new in (('/run/ipp-room-judge/ask', judge), ('/etc/haproxy/judge.lua', f'{TOP}/packaging/directory/judge.lua')):
+        want(old in text, f'{old} is not in it')
+        text = text.replace(old, new)
+    return text
 
 
 def userlist(users, operators):
