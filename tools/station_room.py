@@ -22,8 +22,8 @@ from messages import CREATE_JOB, MOMENT, SEND_DOCUMENT, TOP, answer_to, attribut
 from serving import Serving, create, run
 
 STATION = f'{TOP}/packaging/station'
-# The package has names.py beside the station.
-os.environ['PYTHONPATH'] = f'{TOP}/packaging/names'
+# The package has these modules beside the station.
+os.environ['PYTHONPATH'] = f'{TOP}/packaging/names:{TOP}/packaging/directory'
 # Seconds: an impression of the device, and what a person waits for the station at most.
 IMPRESSION, MOST_WAIT = 0.1, 150
 

@@ -3,6 +3,7 @@ that was ended in the midst of it goes on from there.
 """
 import secrets
 import time
+from typing import NamedTuple
 
 import ipp
 import ticket
@@ -17,12 +18,23 @@ TRIES, AGAIN, LOOK, MOST_WAIT = 4, 5, 0.5, 600
 LATER = ('failed', 'not-your-device')
 
 
-class Printing:
-    """Prints one job at a time of those that `server` has, at the device of this name there."""
+class Plan(NamedTuple):
+    """How a job is to be printed: as which device of the server, the impressions that somebody told who was asked for them, and where
+    there are prices the units of an impression, the units that may be reserved, and what has the price."""
+    device: str
+    impressions: int | None = None
+    units: int | None = None
+    most: int | None = None
+    what: str = ''
 
-    def __init__(self, name, server, spooler, printer, state, screen, patience):
+
+class Printing:
+    """Prints one job at a time of those that `server` has, at the device of this name there, or by `prices` at one of several names."""
+
+    def __init__(self, name, server, spooler, printer, state, screen, patience, prices=None):
         self.name, self.server, self.spooler, self.device = name, server, spooler, printer
-        self.state, self.screen, self.patience = state, screen, patience
+        self.state, self.screen, self.patience, self.prices = state, screen, patience, prices
+        self.names = prices.devices if prices else [name]
         # Those of the jobs that were released: on the disk there is none.
         self.pins = {}
 
@@ -58,13 +70,14 @@ class Printing:
     def renew(self):
         """Is heard by the server, also where nobody comes: a proxy keeps a name for the station that it has heard."""
         try:
-            if self.server.ask(f'list {self.name} {self.name}') == 'not-your-device':
-                log(f'the print server does not let this station be {self.name}: another one is, or has to be')
+            for name in self.names:
+                if self.server.ask(f'list {name} {name}') == 'not-your-device':
+                    log(f'the print server does not let this station be {name}: another one is, or has to be')
         except Lost:
             # Whoever releases a job is told.
             pass
 
-    def release(self, account, row, password, impressions):
+    def release(self, account, row, password, plan):
         """Has a job released, prints and settles it. Answers the word of a refusal, or None."""
         is_released = row.state != 'held'
         if is_released and row.has_password and self.pins.get((account, row.job)) != password:
@@ -72,11 +85,12 @@ class Printing:
             return 'password' if (account, row.job) in self.pins else 'released'
         aside, self.state.aside = self.state.aside, [kept for kept in self.state.aside if kept[:2] != [account, row.job]]
         self.state.job = {'account': account, 'job': row.job, 'released': is_released, 'copies': row.copies,
-                          'impressions': impressions or row.impressions, 'of': None, 'documents': [], 'end': None,
-                          'asked': row.state == 'processing', 'has_pin': row.has_password}
+                          'impressions': plan.impressions or row.impressions, 'of': None, 'documents': [], 'end': None,
+                          'asked': row.state == 'processing', 'has_pin': row.has_password, 'device': plan.device, 'units': plan.units,
+                          'most': plan.most}
         try:
             self.state.save()
-            word = None if is_released else self.ask_release(account, row.job, password, impressions)
+            word = None if is_released else self.ask_release(account, row.job, password, plan)
         except OSError as error:
             word = f'disk: {error.strerror}'
         if word:
@@ -87,11 +101,11 @@ class Printing:
         self.carry_on()
         return None
 
-    def ask_release(self, account, job, password, impressions):
+    def ask_release(self, account, job, password, plan):
         """The word of a refusal, or None where it is released, or no answer came."""
         digits = password.encode().hex() or '-'
         try:
-            word = self.server.ask(f'release {self.name} {account} {job} {digits} {impressions or "-"}')
+            word = self.server.ask(f'release {plan.device} {account} {job} {digits} {plan.impressions or "-"}')
         except Lost:
             return None
         self.state.job['released'] = word.startswith('ok ')
@@ -124,7 +138,7 @@ class Printing:
 
     def set_aside(self, job):
         """Keeps a started job of which nothing came out, so that it can be chosen again here."""
-        self.state.aside.append([job['account'], job['job'], time.time(), job.get('has_pin', True)])
+        self.state.aside.append([job['account'], job['job'], time.time(), job.get('has_pin', True), self.named(job)])
         self.screen.say('Nothing came out, and nothing is charged. It waits here for another try.')
 
     def is_aside(self, account, row):
@@ -133,8 +147,9 @@ class Printing:
     def end_aside(self):
         """Settles those jobs set aside that were canceled, that have waited too long, or whose PIN is not known any more."""
         for kept in list(self.state.aside):
-            account, number, since, has_pin = kept
-            job = {'account': account, 'job': number, 'documents': [], 'end': 'failed', 'impressions': None, 'copies': 1}
+            # Earlier versions keep no device.
+            account, number, since, has_pin, device = [*kept, self.name][:5]
+            job = {'account': account, 'job': number, 'documents': [], 'end': 'failed', 'impressions': None, 'copies': 1, 'device': device}
             if self.is_canceled(job) or time.time() - since > self.patience or (has_pin and (account, number) not in self.pins):
                 self.settle(job)
                 self.state.aside.remove(kept)
@@ -156,7 +171,8 @@ class Printing:
         try:
             documents = self.fetch(job)
         except Refused as refused:
-            self.screen.say(f'{number} is not printed here ({refused.word}).')
+            self.screen.say(f'{number} is not printed here ({refused.word}).' if refused.word != 'dearer' else
+                            f'The print server takes more for {number} than was shown. It is left alone. Tell the print room.')
             return 'failed' if refused.word == 'stopping' or ends else 'elsewhere'
         return self.print_documents(job, documents)
 
@@ -175,7 +191,9 @@ class Printing:
     def fetch_once(self, job):
         if not job['released'] and not self.is_here(job):
             raise Refused('not-released')
-        which = f"{self.name} {job['account']} {job['job']}"
+        if not job.get('asked', True) and self.is_dearer(job):
+            raise Refused('dearer')
+        which = f"{self.named(job)} {job['account']} {job['job']}"
         was_asked = self.keep_asked(job)
         try:
             return self.server.documents(f'start {which}')
@@ -203,7 +221,18 @@ class Printing:
 
     def row(self, job):
         """What the server tells of a job, or None where it has ended or another device has it."""
-        return next((row for row in self.server.jobs(self.name, job['account']) if row.job == job['job']), None)
+        return next((row for row in self.server.jobs(self.named(job), job['account']) if row.job == job['job']), None)
+
+    def named(self, job):
+        """As which device the job is printed. Earlier versions keep none."""
+        return job.get('device') or self.name
+
+    def is_dearer(self, job):
+        """Whether more is reserved for a job than its owner agreed to."""
+        if job.get('most') is None:
+            return False
+        row = self.row(job)
+        return row is not None and row.reserved > job['most']
 
     def is_canceled(self, job):
         """Whether its owner has canceled it since it was started."""
@@ -215,7 +244,7 @@ class Printing:
 
     def is_here(self, job):
         row = self.row(job)
-        return row is not None and row.device == self.name
+        return row is not None and row.device == self.named(job)
 
     def print_documents(self, job, documents):
         """Prints those that are not printed yet, once the device can do what all of them ask for."""
@@ -224,6 +253,10 @@ class Printing:
         except ticket.Bad as bad:
             self.screen.say(f'Its ticket asks for {bad}, which this station does not know. Nothing is printed or charged.')
             return 'failed'
+        if job.get('units') is not None:
+            tickets = self.priced(job['units'], tickets)
+            if tickets is None:
+                return 'failed'
         supported = self.supported() if any(tickets) else {}
         if supported is None:
             return 'failed'
@@ -240,6 +273,15 @@ class Printing:
             if end != 'done':
                 return end
         return 'done'
+
+    def priced(self, units, tickets):
+        """The tickets with all that their prices depend on; None where one has a higher price than this, or none, which is said."""
+        filled = [self.prices.filled(chosen) for chosen in tickets] if self.prices else []
+        prices = [self.prices.price(chosen) for chosen in filled]
+        if self.prices and all(price is not None and price.units <= units for price in prices):
+            return filled
+        self.screen.say('Its documents ask for something else than was priced. Nothing is printed or charged.')
+        return None
 
     def supported(self):
         """What the device has, or None where somebody types `stop` before it answers."""
@@ -324,7 +366,7 @@ class Printing:
         """Tells the server what the device has counted, until that is answered."""
         self.pins.pop((job['account'], job['job']), None)
         count = min(MOST, self.count(job))
-        line = f"settle {self.name} {job['account']} {job['job']} {count} {job['end']}"
+        line = f"settle {self.named(job)} {job['account']} {job['job']} {count} {job['end']}"
         how = 'Printed' if job['end'] == 'done' else 'It has failed, or was stopped'
         while True:
             try:

@@ -29,6 +29,8 @@ class Screen:
     def __init__(self):
         self.is_terminal, self.is_shown = os.isatty(0), True
         self.keys, self.line, self.decoder = '', '', codecs.getincrementaldecoder('utf-8')('ignore')
+        # When the line was begun, and how many seconds the last one took from its first letter to its end.
+        self.begun, self.seconds = 0.0, 0.0
         # Nobody ends or stops the station from its keyboard, also where others have changed the terminal.
         for key in (signal.SIGINT, signal.SIGQUIT, signal.SIGTSTP):
             signal.signal(key, signal.SIG_IGN)
@@ -81,6 +83,7 @@ class Screen:
             key, self.keys = self.keys[0], self.keys[1:]
             if key in '\r\n':
                 line, self.line = self.line, ''
+                self.seconds = time.monotonic() - self.begun
                 self.write('\n')
                 return line
             if key in BACKSPACES:
@@ -88,6 +91,7 @@ class Screen:
             elif key == CONTROL_U:
                 self.erase(len(self.line))
             elif is_seen(key) and len(self.line) < MOST_TYPED:
+                self.begun = self.begun if self.line else time.monotonic()
                 self.line += key
                 self.echo(key if columns(key) == 1 else '?')
         return None

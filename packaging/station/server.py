@@ -16,10 +16,12 @@ MOST_LINE, MOST_JOBS, MOST_DOCUMENTS, MOST_BYTES = 65536, 1000, 8, 16 << 20
 MOST_ANSWER = MOST_DOCUMENTS * (MOST_BYTES + MOST_LINE)
 # The last moment, in seconds, and the largest of other numbers.
 LAST, MOST = 4102444799, (1 << 31) - 1
+# Of one job, in units: impressions, copies and rate.
+MOST_RESERVED = MOST * 999 * 100
 # Letters of a name: those that are read, and those that are shown.
 MOST_NAME, MOST_SHOWN = 1024, 60
 
-Row = collections.namedtuple('Row', 'job state device created has_password copies impressions name ticket')
+Row = collections.namedtuple('Row', 'job state device created has_password copies impressions reserved name ticket')
 Document = collections.namedtuple('Document', 'copies format data')
 
 
@@ -99,14 +101,14 @@ def read_jobs(first, answers):
 
 
 def row(line):
-    (_, job, state, device, created, _, _, password, copies, impressions, _, _, _, name) = line.split(' ')
+    (_, job, state, device, created, _, _, password, copies, impressions, reserved, _, _, name) = line.split(' ')
     title, chosen = ticket.split(unquote_to_bytes(name).decode('utf-8', 'replace')[:MOST_NAME])
     return Row(number(job), state, device, number(created, LAST), password != '-', number(copies), number(impressions) or None,
-               harmless(title, MOST_SHOWN), chosen)
+               number(reserved, MOST_RESERVED), harmless(title, MOST_SHOWN), chosen)
 
 
 def number(word, most=MOST):
-    if not re.fullmatch('[0-9]{1,10}', word) or int(word) > most:
+    if not re.fullmatch('[0-9]{1,20}', word) or int(word) > most:
         raise ValueError(f'{word[:20]} is no number up to {most}')
     return int(word)
 
