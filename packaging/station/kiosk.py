@@ -108,7 +108,7 @@ class Kiosk:
             return []
         self.say_offer()
         line = self.screen.ask('Which? Their numbers, or `all` (Enter for none): ', THINKS) or ''
-        words = line.replace(',', ' ').lower().split()
+        words = [] if self.sign_on.is_misread(line.strip()) else line.replace(',', ' ').lower().split()
         strange = [word for word in words if word != 'all' and word not in [str(row.job) for row in rows]]
         if strange:
             # What is longer is no number of a job, but maybe a card or a password.

@@ -27,8 +27,10 @@ class Gone(Exception):
 
 class Screen:
     def __init__(self):
-        self.is_terminal, self.is_shown = os.isatty(0), True
+        # Typed letters are shown where something is asked, and never where it is asked unseen.
+        self.is_terminal, self.is_shown = os.isatty(0), False
         self.keys, self.line, self.decoder = '', '', codecs.getincrementaldecoder('utf-8')('ignore')
+        self.last = ''
         # When the line was begun, and how many seconds the last one took from its first letter to its end.
         self.begun, self.seconds = 0.0, 0.0
         # Nobody ends or stops the station from its keyboard, also where others have changed the terminal.
@@ -51,7 +53,7 @@ class Screen:
         self.write(harmless(prompt, MOST_SHOWN))
         self.is_shown = not hidden
         line = self.pause(seconds)
-        self.is_shown = True
+        self.is_shown = False
         if line is None:
             self.line = ''
             self.write('\n')
@@ -81,6 +83,10 @@ class Screen:
         """Takes what was typed up to the end of a line, and answers that line if it has come."""
         while self.keys:
             key, self.keys = self.keys[0], self.keys[1:]
+            before, self.last = self.last, key
+            if key == '\n' and before == '\r':
+                # A reader of cards may end a line by both.
+                continue
             if key in '\r\n':
                 line, self.line = self.line, ''
                 self.seconds = time.monotonic() - self.begun

@@ -10,8 +10,8 @@ from names import Names, Unusable, load
 from pins import load as load_pins
 from screen import Screen
 
-# Seconds: how long a person may think before typing.
-THINKS = 60
+# Seconds: how long a person may think before typing. Digits that show that a line is a card's and no name.
+THINKS, DIGITS = 60, 6
 ALONE = 'Whoever types your name prints here what waits without a PIN.'
 
 
@@ -48,13 +48,25 @@ class SignOn:
         try:
             if self.cards and first:
                 return self.by_card(first, self.seconds)
-            name = self.screen.ask('Account: ', THINKS) if self.cards else first
-            return self.by_name(name.strip()) if name and name.strip() else None
+            name = self.ask_name() if self.cards else first
+            return self.by_name(name) if name else None
         except Unusable as unusable:
             self.screen.say(f'Nobody knows now whose account that is. Tell the print room: {unusable}.')
         except Unknown as unknown:
             self.screen.say(f'Nobody can be signed in now: {unknown}. Come again later.')
         return None
+
+    def ask_name(self) -> str:
+        name = (self.screen.ask('Account: ', THINKS) or '').strip()
+        return '' if self.is_misread(name) else name
+
+    def is_misread(self, line: str) -> bool:
+        """Whether a card was held to the reader where something else was asked, which is said. It does not stay on the screen."""
+        if not self.cards or not is_read(line, self.screen.seconds) or sum(map(str.isdigit, line)) < DIGITS:
+            return False
+        self.screen.clear()
+        self.screen.say('Hold your card to the reader where it is asked for.')
+        return True
 
     def by_name(self, name: str) -> str | None:
         names = load(self.table)
@@ -134,7 +146,7 @@ class SignOn:
             account, name = owner
             return account if self.may_have_card(names, name, account) else self.say_gone()
         self.screen.say('The station does not know this card. Sign in once, and it will.')
-        name = (self.screen.ask('Account: ', THINKS) or '').strip()
+        name = self.ask_name()
         account = self.by_name(name) if name else None
         if account:
             take_back()
