@@ -12,10 +12,11 @@ PASSWORD = 'secret'
 class Proxy:
     """haproxy, up to the end of the block, before these ports of clients and pages. `users` sign in by one password, `operators` too.
 
-    `port` is that of pages, `clients` that of clients. With `judge`, the socket of a judge, names and passwords are a directory's.
+    `port` is that of pages, `clients` that of clients. With `judge`, the socket of a judge, names and passwords are a directory's. `queue` is
+    the socket of a run of ipp-room-queue.
     """
 
-    def __init__(self, folder, clients, pages, users, operators=(), table='rule same\n', judge=None):
+    def __init__(self, folder, clients, pages, users, operators=(), table='rule same\n', judge=None, queue='/run/ipp-room-queue/pages'):
         self.folder, self.table, self.port, self.clients, self.stations = folder, f'{folder}/names', free_port(), free_port(), free_port()
         words = ['openssl', 'req', '-x509', '-newkey', 'rsa:2048', '-nodes', '-keyout', f'{folder}/room.pem.key', '-out', f'{folder}/room.pem',
                  '-subj', '/CN=printroom.example']
@@ -26,7 +27,8 @@ class Proxy:
                          ('/etc/haproxy/names.map', f'{folder}/names.map'), ('/etc/haproxy/others.map', f'{folder}/others.map'),
                          ('log /dev/log local0', 'log stdout format raw local0'), (':443 ', f':{self.port} '), (':631 ', f':{self.clients} '),
                          (':6312 ', f':{self.stations} '), ('unix@/run/ipp-room/pages', f'127.0.0.1:{pages}'),
-                         ('unix@/run/ipp-room/clients', f'127.0.0.1:{clients}'), ('    user haproxy\n', '')):
+                         ('unix@/run/ipp-room/clients', f'127.0.0.1:{clients}'), ('unix@/run/ipp-room-queue/pages', f'unix@{queue}'),
+                         ('    user haproxy\n', '')):
             want(old in text, f'{old} is not in it')
             text = text.replace(old, new)
         write(f'{folder}/haproxy.cfg', (asking(judge) if judge else '') + text + userlist(users, operators))
