@@ -52,8 +52,8 @@ def groups():
     return [place for place in places if os.path.exists(f'{place}/cgroup.procs')]
 
 
-def prepare(folder, packages):
-    """A Debian in `folder`/debian, which has fetched what these packages, files of dpkg, stand on. It is kept for the next time."""
+def prepare(folder, packages, others=()):
+    """A Debian in `folder`/debian, which has fetched what these packages, files of dpkg, stand on, and others. It is kept for the next time."""
     base = f'{folder}/debian'
     if not os.path.exists(f'{folder}/is-made'):
         shutil.rmtree(base, ignore_errors=True)
@@ -64,7 +64,7 @@ def prepare(folder, packages):
     put(packages, f'{base}/root')
     shutil.copy('/etc/resolv.conf', f'{base}/etc/resolv.conf')
     names = ' '.join(f'./{os.path.basename(package)}' for package in packages)
-    call('chroot', base, 'sh', '-c', f'cd /root && apt-get -q update && apt-get -q install --download-only {names} && rm {names}')
+    call('chroot', base, 'sh', '-c', f'cd /root && apt-get -q update && apt-get -q install --download-only {names} {" ".join(others)} && rm {names}')
 
 
 def put(files, folder):
