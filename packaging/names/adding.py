@@ -8,7 +8,7 @@ import os
 import shutil
 from typing import Callable, Iterable, Iterator
 
-from names import Names, fault_of, load
+from names import Names, fault_of, read
 
 
 def sort_out(names: Names, listed: Iterable[bytes]) -> tuple[int, dict[str, str], dict[bytes, str]]:
@@ -60,7 +60,25 @@ def alone(path: str) -> Iterator[None]:
 
 def add_accounts(path: str, wanted: dict[str, str]) -> None:
     """Adds a line for each account and its name to the table, all or none."""
-    put(path, lambda data: data + ''.join(f'account {account} {name}\n' for account, name in wanted.items()).encode())
+    put(path, lambda data: data + lines_of(wanted))
+
+
+def lines_of(wanted: dict[str, str]) -> bytes:
+    return ''.join(f'account {account} {name}\n' for account, name in wanted.items()).encode()
+
+
+def without_names(data: bytes, names: Names, unwanted: set[bytes]) -> bytes:
+    """A table from whose lines these names, folded, are taken out. A line that has no other goes with them."""
+    kept = []
+    for line in data.split(b'\n'):
+        words = line.replace(b'\t', b' ').split()
+        others = [word for word in words[2:] if names.folded(word) not in unwanted]
+        if words[:1] == [b'account'] and len(others) < len(words) - 2:
+            if others:
+                kept.append(b' '.join([*words[:2], *others]))
+        else:
+            kept.append(line)
+    return b'\n'.join(kept)
 
 
 def put(path: str, edit: Callable[[bytes], bytes]) -> None:
@@ -69,8 +87,8 @@ def put(path: str, edit: Callable[[bytes], bytes]) -> None:
         with open(path, 'rb') as file:
             text = edit(file.read())
         write_like(path, part, text)
-        # What was written is a table.
-        load(part)
+        # What was written is a table, perhaps without an account.
+        read(part)
     replace(path, write)
 
 

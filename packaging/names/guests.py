@@ -23,6 +23,7 @@ GUESTS = '/etc/ipp-room/guests'
 LETTERS = '23456789abcdefghjkmnpqrstuvwxyz'
 CODE_LENGTH, NAME_LENGTH = 12, 5
 NAME = f'guest-[{LETTERS}]{{{NAME_LENGTH}}}'
+CODE = re.compile(f'[{LETTERS}]{{{CODE_LENGTH}}}'.encode())
 LINE = re.compile(f'guest (?P<name>{NAME}) (?P<until>[0-9]{{1,10}}) (?P<salt>[0-9a-f]{{32}}) (?P<hash>[0-9a-f]{{64}})'
                   f'|gone (?P<was>{NAME}) (?P<ended>[0-9]{{1,10}})', re.ASCII)
 # Bytes of the file: of some 80000 guests.
@@ -81,12 +82,13 @@ def written(guests: dict[str, Guest]) -> bytes:
 
 def judge(name: bytes, code: bytes, path: str = GUESTS, now: float | None = None) -> bool | None:
     """Whether this is the code of the guest of this name, whose time is not over. None where the name is no guest's, and never was."""
-    guest = read(path).get(name.decode('latin-1').lower())
+    guest, code = read(path).get(name.decode('latin-1').lower()), bare(code)
     if guest is None:
         return None
     if guest.sum is None or guest.salt is None or (time.time() if now is None else now) >= guest.until:
         return False
-    return hmac.compare_digest(sum_of(bare(code), guest.salt), guest.sum)
+    # To scrypt a code and the same one with NUL behind it would be one.
+    return bool(CODE.fullmatch(code)) and hmac.compare_digest(sum_of(code, guest.salt), guest.sum)
 
 
 def bare(code: bytes) -> bytes:
