@@ -21,8 +21,8 @@ from room import Lines, Lost
 
 # Connections of a door, and of a user at it; seconds: with nothing begun, for a line, for an answer, and the bytes for one more.
 MOST_PEERS, MOST_OF_USER, IDLE, BEGUN, PACE = 16, 8, 60, 10, 16384
-# Lines of a connection that leave a line in the log though they change nothing.
-MOST_LOGGED = 20
+# Lines of a connection that leave a line in the log though they change nothing, and letters of an answer there.
+MOST_LOGGED, MOST_TOLD = 20, 200
 CREDENTIALS = struct.Struct('3i')
 BAD_LINE, FAILED = b'bad-line', b'failed'
 
@@ -94,7 +94,7 @@ class Conversation:
                         self.room.wait_for_end(IDLE)
                         return
             except ValueError:
-                self.note('refused', self.peer.unread)
+                self.note('refused', shown(self.peer.unread))
                 self.peer.answer([BAD_LINE])
             finally:
                 if self.count > MOST_LOGGED:
@@ -102,14 +102,14 @@ class Conversation:
 
     def answer_to(self, line: bytes) -> list[bytes]:
         if not lines.is_of(self.role, line):
-            self.note('refused', line)
+            self.note('refused', shown(line))
             return [BAD_LINE]
         if lines.word_of(line) not in lines.CHANGES:
-            self.note('asks', line)
+            self.note('asks', line.decode())
             return self.room.ask(line)
         try:
             # Nothing is changed of which nobody could say who did it.
-            self.log.put(self.role, self.user, 'asks', shown(line), is_kept=True)
+            self.log.put(self.role, self.user, 'asks', line.decode(), is_kept=True)
         except OSError:
             return [FAILED]
         return self.change(line)
@@ -119,7 +119,7 @@ class Conversation:
             told = [self.correct(*line.decode().split(' ')).encode()]
         else:
             told = self.room.ask(line)
-        self.try_to_log('told', f'{shown(line)} {shown(told[0])}')
+        self.try_to_log('told', f'{line.decode()} {told[0].decode()[:MOST_TOLD]}')
         return told
 
     def correct(self, word: str, account: str, units: str, reason: str) -> str:
@@ -129,11 +129,11 @@ class Conversation:
             return BAD_LINE.decode()
         return self.desk.correct(self.role, self.user, account, int(units), text, word == 'correct-again')
 
-    def note(self, what: str, line: bytes) -> None:
+    def note(self, what: str, text: str) -> None:
         """Logs what changes nothing: the first lines of a connection."""
         self.count += 1
         if self.count <= MOST_LOGGED:
-            self.try_to_log(what, shown(line))
+            self.try_to_log(what, text)
 
     def try_to_log(self, what: str, text: str) -> None:
         with contextlib.suppress(OSError):

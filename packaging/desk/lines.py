@@ -34,7 +34,8 @@ PATTERNS = {role: re.compile('|'.join(lines).encode()) for role, lines in ROLES.
 CHANGES = {b'open', b'grant', b'correct', b'correct-again', b'device', b'rate', b'cancel', b'hold', b'backup', b'end'}
 # Words by which a list is answered.
 LISTS = {b'accounts': b'accounts', b'jobs': b'jobs', b'ended': b'jobs', b'grants': b'grants', b'devices': b'devices'}
-MOST_LIST = 999999
+# What stands for itself in a word of text, beside letters and digits.
+SEEN = "!\"#$&'()*+,-./:;<=>?@[\\]^_`{|}~"
 
 
 def is_of(role: str, line: bytes) -> bool:
@@ -59,7 +60,7 @@ def count_behind(line: bytes, first: bytes) -> int:
 
 def written(text: str) -> str:
     """A text as a line has it: with each byte outside ASCII, control, space and `%` as `%` and two digits."""
-    return quote(text, safe="!\"#$&'()*+,-./:;<=>?@[\\]^_`{|}~")
+    return quote(text, safe=SEEN)
 
 
 def read_reason(word: str) -> str:

@@ -1,9 +1,12 @@
 """The desk's log: who asked what, and what it came to."""
 import os
-import re
 import threading
 import time
+from urllib.parse import quote_from_bytes
 
+from lines import SEEN
+
+# Bytes of what a door refused.
 MOST_SHOWN = 200
 
 
@@ -34,5 +37,5 @@ class Log:
 
 
 def shown(line: bytes) -> str:
-    """What somebody sent, as it may stand in a line of the log."""
-    return re.sub('[^ -~]', '?', line[:MOST_SHOWN].decode('latin-1'))
+    """The beginning of what somebody sent, as one word: nobody has another's name stand in a line behind the own."""
+    return quote_from_bytes(line[:MOST_SHOWN], safe=SEEN) or '-'
