@@ -73,12 +73,13 @@ def add_users(folder, names):
     code = subprocess.run(['openssl', 'passwd', '-6', PASSWORD], check=True, stdout=subprocess.PIPE).stdout.decode().strip()
     lines = {'passwd': [f'{name}:x:{FIRST_USER_ID + place}:{FIRST_USER_ID}::/:/bin/sh' for place, name in enumerate(names)],
              'shadow': [f'{name}:{code}:20000:0:99999:7:::' for name in names]}
+    # The whole folder: a file that another program of the machine replaces meanwhile would take the mount with it.
+    subprocess.run(['cp', '-a', '/etc', f'{folder}/etc'], check=True)
     for file, added in lines.items():
-        shutil.copy(f'/etc/{file}', f'{folder}/{file}')
-        with open(f'{folder}/{file}', 'a') as users:
+        with open(f'{folder}/etc/{file}', 'a') as users:
             users.write('\n'.join(added) + '\n')
-        subprocess.run(['mount', '--bind', f'{folder}/{file}', f'/etc/{file}'], check=True)
-    subprocess.run(['mount', '--bind', f'{PACKAGE}/pam', '/etc/pam.d/cups'], check=True)
+    shutil.copy(f'{PACKAGE}/pam', f'{folder}/etc/pam.d/cups')
+    subprocess.run(['mount', '--bind', f'{folder}/etc', '/etc'], check=True)
     os.makedirs(GUESSES, exist_ok=True)
     subprocess.run(['mount', '-t', 'tmpfs', 'guesses', GUESSES], check=True)
 

@@ -14,7 +14,7 @@ from server import CHARSET, END, GET_JOBS, JOB, KEYWORD, LANGUAGE, OPERATION, UR
 RELEASE_JOB, RESTART_JOB = 0x0D, 0x0E
 HELD, STOPPED, CANCELED, ABORTED = 4, 6, 7, 8
 # A job that waits for room in its account: its backend says these words, and gives a reason by which cupsd 2.4.2 leaves job-hold-until as it
-# was. Whoever else holds a job, as its owner, changes that.
+# was. Whoever else holds a job, as its owner, changes that; cupsd itself does not, of a job that it tries again.
 FULL, NOT_HELD_BY_OWNER = '100 jobs wait in the account ', b'no-hold'
 # One whose documents still come.
 INCOMING = b'job-incoming'
@@ -44,6 +44,11 @@ class Job:
     def is_full(self) -> bool:
         """Whether it waits for room in its account, and its owner has not held it since."""
         return self.may_go_on and self.until == NOT_HELD_BY_OWNER and self.why.startswith(FULL)
+
+    @property
+    def is_told(self) -> bool:
+        """Whether it waits for somebody, or was refused, and cupsd has a word of why. One that cupsd tries again by itself is none of these."""
+        return self.why != '' and (self.is_refused or self.is_full or (self.may_go_on and self.until != NOT_HELD_BY_OWNER) or self.state == STOPPED)
 
     @property
     def has_ended(self) -> bool:

@@ -52,10 +52,10 @@ class FrontLog:
             os.fsync(file.fileno())
 
 
-def key_of(job: Job) -> tuple | None:
-    """What one line is about: the job, that it is held or refused, and why. One that its owner holds is none of these."""
-    word = b'refused' if job.is_refused else b'held' if job.may_go_on and job.why else None
-    return word and (word, job.number, job.made, quote_from_bytes(job.why.encode()[:MOST_WHY]).encode() or b'-')
+def key_of(job: Job) -> tuple | bool:
+    """What one line is about: the job, that it is held or refused, and why; False where there is none."""
+    word = b'refused' if job.is_refused else b'held'
+    return job.is_told and (word, job.number, job.made, quote_from_bytes(job.why.encode()[:MOST_WHY]).encode() or b'-')
 
 
 def line_of(account: str | None, job: Job, key: tuple) -> bytes:
