@@ -15,12 +15,11 @@ RAISED, FIRST_RAISED = 26, 2000
 
 
 class Given(NamedTuple):
-    """The pages of an account, what tells its people from others, the names that lead them to it, and the one that the table has to get for it
-    (none where it has one).
+    """The pages of an account; the names that lead its people to it, as the table has them, each with what tells who has it from others; and
+    the name that the table has to get for it (none where it has one).
     """
     pages: int
-    same: list[str]
-    names: frozenset[bytes]
+    ids: dict[str, str]
     name: str = ''
 
 
@@ -48,16 +47,19 @@ def assign(names: Names, people: list[Person], may_have: Callable[[str, str], bo
             new[person.names[0]] = person
     _, wanted, refused = sort_out(names, new)
     left.update((shown(name), why) for name, why in refused.items())
-    given = {account: Given(max(person.pages for person in who), sorted(person.same for person in who),
-                            frozenset(counting(names, name) for person in who for name in person.names))
-             for account, who in found.items()}
+    given = {account: Given(max(person.pages for person in who), ids_of(names, account, who)) for account, who in found.items()}
     by_bare = {counting(names, name).decode(errors='replace'): person for name, person in new.items()}
     for account, name in wanted.items():
         if not may_have(account, by_bare[name].same):
             left[name] = f'{account} is open, for somebody else: a line of the table has to say that it is theirs'
             continue
-        given[account] = Given(by_bare[name].pages, [by_bare[name].same], frozenset([name.encode()]), name)
+        given[account] = Given(by_bare[name].pages, {name: by_bare[name].same}, name)
     return given, left
+
+
+def ids_of(names: Names, account: str, people: list[Person]) -> dict[str, str]:
+    """The names of these people that lead to the account, each with what tells its person from others."""
+    return {counting(names, name).decode(): person.same for person in people for name in person.names if names.account_of(name) == account}
 
 
 def counting(names: Names, name: bytes) -> bytes:
