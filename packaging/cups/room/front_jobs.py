@@ -2,9 +2,9 @@
 
 That user may look at everybody's jobs, let a held one go on and start a stopped one again, by two lines of cupsd.conf, and nothing else.
 """
-import getpass
 import http.client
 import os
+import pwd
 import threading
 import time
 
@@ -19,8 +19,8 @@ FULL, NOT_HELD_BY_OWNER = '100 jobs wait in the account ', b'no-hold'
 # One whose documents still come.
 INCOMING = b'job-incoming'
 # Of an answer: seconds and bytes. cupsd keeps 10000 jobs, each with at most a kilobyte of what is asked.
-SECONDS, MOST_ANSWER = 20, 64 << 20
-# For so long an answer of cupsd serves all who ask.
+SECONDS, MOST_ANSWER = 10, 64 << 20
+# For so long what came of asking cupsd serves all who ask, also that it did not answer.
 KEPT = 3
 WANTED = ('job-id', 'job-name', 'job-originating-user-name', 'job-state', 'job-state-reasons', 'job-printer-state-message', 'time-at-creation',
           'time-at-completed', 'job-hold-until')
@@ -68,15 +68,21 @@ class FrontJobs:
     """The jobs at the cupsd at a socket. `table` is the table of names."""
 
     def __init__(self, door: str, table: str):
-        self.door, self.table, self.user = door, table, getpass.getuser() if os.geteuid() else 'root'
-        self.lock, self.kept, self.asked = threading.Lock(), [], 0.0
+        self.door, self.table, self.user = door, table, pwd.getpwuid(os.geteuid()).pw_name
+        self.lock, self.kept, self.fault, self.asked = threading.Lock(), [], None, 0.0
 
     def all(self) -> list[Job]:
         """Those that have not ended, and those that were canceled or aborted and that cupsd still knows. By their numbers."""
         with self.lock:
             if time.monotonic() - self.asked > KEPT or not self.asked:
-                found = {job.number: job for which in (b'not-completed', b'canceled', b'aborted') for job in self.ask_for(which)}
-                self.kept, self.asked = sorted(found.values(), key=lambda job: job.number), time.monotonic()
+                try:
+                    found = {job.number: job for which in (b'not-completed', b'canceled', b'aborted') for job in self.ask_for(which)}
+                    self.kept, self.fault = sorted(found.values(), key=lambda job: job.number), None
+                except NoFront as fault:
+                    self.fault = fault
+                self.asked = time.monotonic()
+            if self.fault:
+                raise NoFront(str(self.fault))
             return self.kept
 
     def forget(self):
