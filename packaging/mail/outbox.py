@@ -147,14 +147,19 @@ class Outbox:
     def run(self, message: bytes, address: str) -> int | None:
         """The status of sendmail; None where it did not end within its time, and was ended with all that it began."""
         words = [self.sendmail, '-i', '-f', self.sender, '--', address]
+        # Not by a pipe: where this program is killed sendmail would take a part for the whole.
+        file = os.memfd_create('mail')
         try:
-            process = subprocess.Popen(words, stdin=subprocess.PIPE, stdout=subprocess.DEVNULL, start_new_session=True)
+            with open(file, 'wb', closefd=False) as text:
+                text.write(message)
+            os.lseek(file, 0, os.SEEK_SET)
+            process = subprocess.Popen(words, stdin=file, stdout=subprocess.DEVNULL, start_new_session=True)
         except OSError as error:
             self.tell(f'{self.sendmail}: {error.strerror}')
             return 127
+        finally:
+            os.close(file)
         try:
-            with contextlib.suppress(BrokenPipeError):
-                process.communicate(message, timeout=MOST_SENDING)
             return process.wait(MOST_SENDING)
         except subprocess.TimeoutExpired:
             with contextlib.suppress(ProcessLookupError):
