@@ -7,16 +7,17 @@ from station_room import free_port, listens, wait_until, want, write
 
 NAMES = f'{TOP}/packaging/names/ipp-room-names'
 PASSWORD = 'secret'
+SIGN_ON = 'global\n    setenv SIGN_ON openid\n\n'
 
 
 class Proxy:
     """haproxy, up to the end of the block, before these ports of clients and pages. `users` sign in by one password, `operators` too.
 
-    `port` is that of pages, `clients` that of clients. With `judge`, the socket of a judge, names and passwords are a directory's. `queue` is
-    the socket of a run of ipp-room-queue.
+    `port` is that of pages, `clients` that of clients. With `judge`, the socket of a judge, names and passwords are a directory's; with
+    `sign_on`, a socket's path, the pages are there, for who has signed people in. `queue` is the socket of a run of ipp-room-queue.
     """
 
-    def __init__(self, folder, clients, pages, users, operators=(), table='rule same\n', judge=None, queue='/run/ipp-room-queue/pages'):
+    def __init__(self, folder, clients, pages, users, operators=(), table='rule same\n', judge=None, queue='/run/ipp-room-queue/pages', sign_on=None):
         self.folder, self.table, self.port, self.clients, self.stations = folder, f'{folder}/names', free_port(), free_port(), free_port()
         words = ['openssl', 'req', '-x509', '-newkey', 'rsa:2048', '-nodes', '-keyout', f'{folder}/room.pem.key', '-out', f'{folder}/room.pem',
                  '-subj', '/CN=printroom.example']
@@ -28,10 +29,10 @@ class Proxy:
                          ('log /dev/log local0', 'log stdout format raw local0'), (':443 ', f':{self.port} '), (':631 ', f':{self.clients} '),
                          (':6312 ', f':{self.stations} '), ('unix@/run/ipp-room/pages', f'127.0.0.1:{pages}'),
                          ('unix@/run/ipp-room/clients', f'127.0.0.1:{clients}'), ('unix@/run/ipp-room-queue/pages', f'unix@{queue}'),
-                         ('    user haproxy\n', '')):
+                         ('    user haproxy\n', ''), ('/run/ipp-room-sign-on/pages', sign_on or '/run/ipp-room-sign-on/pages')):
             want(old in text, f'{old} is not in it')
             text = text.replace(old, new)
-        write(f'{folder}/haproxy.cfg', (asking(judge) if judge else '') + text + userlist(users, operators))
+        write(f'{folder}/haproxy.cfg', (asking(judge) if judge else '') + (SIGN_ON if sign_on else '') + text + userlist(users, operators))
         self.put_table(table)
 
     def put_table(self, table):
@@ -50,7 +51,7 @@ class Proxy:
         with open(f'{self.folder}/proxy.log', 'w', encoding='utf-8') as log:
             self.process = subprocess.Popen(['haproxy', '-f', f'{self.folder}/haproxy.cfg'], stdout=log, stderr=log)
         try:
-            wait_until(lambda: listens(self.port), 20, 'haproxy')
+            wait_until(lambda: listens(self.clients), 120, 'haproxy')
         except BaseException:
             self.__exit__()
             raise

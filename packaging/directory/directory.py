@@ -32,7 +32,7 @@ from collections.abc import Callable
 from dataclasses import dataclass, field
 from typing import Any
 
-from ldapv3 import COMPARE_FALSE, COMPARE_TRUE, NO_ATTRIBUTE, NO_OBJECT, REFUSALS, SUCCESS, Away, Connection, equals
+from ldapv3 import COMPARE_FALSE, COMPARE_TRUE, NO_ATTRIBUTE, NO_OBJECT, REFUSALS, SUCCESS, Away, Connection, Unclear, equals
 from names import Names, fault_of
 
 CONFIGURATION = '/etc/ipp-room/directory'
@@ -177,15 +177,24 @@ class Directory:
             return WRONG
         return self.ask(lambda connection: self.judge_at(connection, counting(name, names), password, names))
 
+    def look_up(self, name: bytes, names: Names) -> Answer:
+        """What the name is good for, if somebody else has judged the password."""
+        if not is_askable(name, b'-'):
+            return WRONG
+        return self.ask(lambda connection: self.judge_at(connection, counting(name, names), None, names))
+
     def ask(self, question: Callable[[Connection], Any]) -> Any:
         """What the first server answers that gives an answer. One that gave none lately is asked behind the others, and where all are so, one
         question in a while asks them: the others wait for nothing.
         """
-        why = 'no server answers'
-        for place in self.places():
+        why, places = 'no server answers', self.places()
+        for place in places:
             was_aside = self.aside[place]
             try:
                 told = self.ask_at(place, question)
+            except Unclear as unclear:
+                why = f'{place[0]}: {unclear}'
+                continue
             except Away as away:
                 why, self.aside[place] = f'{place[0]}: {away}', time.monotonic() + ASIDE
                 if not was_aside:
@@ -195,6 +204,9 @@ class Directory:
             if was_aside:
                 self.complain(f'{place[0]} answers again')
             return told
+        if places:
+            # Whoever comes soon has at once the answer that this one had to wait for.
+            self.again = time.monotonic() + AGAIN
         raise Away(why)
 
     def places(self) -> list[tuple[str, int]]:
@@ -205,7 +217,7 @@ class Directory:
             if not good:
                 if now < self.again:
                     return []
-                self.again = now + AGAIN
+                self.again = now + AGAIN + PATIENCE * len(self.aside)
             bad = [place for place in self.aside if place not in good]
             # Of those that were set aside long enough ago this question alone finds out whether they answer.
             self.aside.update((place, now + ASIDE) for place in good if self.aside[place])
@@ -219,7 +231,7 @@ class Directory:
                 raise Away(f'it refuses the searcher with {code}')
             return question(connection)
 
-    def judge_at(self, connection: Connection, name: bytes, password: bytes, names: Names) -> Answer:
+    def judge_at(self, connection: Connection, name: bytes, password: bytes | None, names: Names) -> Answer:
         said = self.said
         found = []
         for base in said.people:
@@ -236,11 +248,11 @@ class Directory:
             return Answer(False, why='has an entry of another name')
         may_print = not said.print or self.is_in(connection, said.print, dn, known[0])
         may_operate = self.is_in(connection, said.operate, dn, known[0])
-        code = connection.bind(dn, password)
+        code = SUCCESS if password is None else connection.bind(dn, password)
         if code in REFUSALS or code == NO_OBJECT:
             return WRONG
         if code != SUCCESS:
-            raise Away(f'it answers a bind with {code}')
+            raise Unclear(f'it answers a bind with {code}')
         why = why_disabled(values, said.disabled)
         return Answer(False, why=why) if why else Answer(True, may_print, may_operate)
 
@@ -253,7 +265,7 @@ class Directory:
             if code == NO_OBJECT:
                 self.complain(f'there is no group {group.decode()}')
             elif code not in (COMPARE_FALSE, NO_ATTRIBUTE):
-                raise Away(f'it answers for {group.decode()} with {code}')
+                raise Unclear(f'it answers for {group.decode()} with {code}')
         return False
 
 
@@ -292,8 +304,8 @@ def why_disabled(values: dict[bytes, list[bytes]], disabled: list[tuple[bytes, b
 
 
 def numbers(values: dict[bytes, list[bytes]], attribute: bytes) -> list[int]:
-    """Those of an attribute. Away where one is none: what it says of the entry is not known then."""
+    """Those of an attribute. Unclear where one is none: what it says of the entry is not known then."""
     try:
         return [int(value) for value in values.get(attribute, [])]
     except ValueError as error:
-        raise Away(f'it has no number as {attribute.decode()}') from error
+        raise Unclear(f'it has no number as {attribute.decode()}') from error

@@ -26,6 +26,10 @@ class Away(Exception):
     """The server gave no answer that says anything of who asked."""
 
 
+class Unclear(Away):
+    """It lives, and of this question says nothing: others go on to ask it."""
+
+
 def item(tag: int, *parts: bytes) -> bytes:
     """An element of BER, of the definite form (RFC 4511 section 5.1)."""
     content = b''.join(parts)
@@ -64,7 +68,10 @@ class Reader:
         return self.take(tag)[1]
 
     def number(self, tag: int) -> int:
-        return int.from_bytes(self.content(tag), 'big', signed=True)
+        content = self.content(tag)
+        if not 0 < len(content) <= 8:
+            raise ValueError('it is no number')
+        return int.from_bytes(content, 'big', signed=True)
 
     def is_at_end(self) -> bool:
         return self.at == len(self.data)
@@ -152,11 +159,11 @@ class Connection:
         while True:
             tag, content = self.answer(ENTRY, REFERENCE, INTERMEDIATE, DONE)
             if tag == ENTRY and len(found) <= most:
-                found.append(entry_of(content))
+                found.append(meant(entry_of, content))
             elif tag == DONE:
-                code = code_of(content)
+                code = meant(code_of, content)
                 if code != SUCCESS and not (code == SIZE_LIMIT and len(found) > most):
-                    raise Away(f'it answers the search with {code}')
+                    raise Unclear(f'it answers the search with {code}')
                 return found
 
     def compare(self, dn: bytes, attribute: bytes, value: bytes) -> int:
@@ -184,17 +191,16 @@ class Connection:
             raise Away(said(error)) from error
 
     def result(self, tag: int) -> int:
-        return code_of(self.answer(tag)[1])
+        return meant(code_of, self.answer(tag)[1])
 
     def answer(self, *tags: int) -> tuple[int, bytes]:
         """The next message, which has to answer what was asked last."""
-        try:
-            message = Reader(Reader(self.message()).content(SEQUENCE))
+        def read(data: bytes) -> tuple[int, bytes]:
+            message = Reader(Reader(data).content(SEQUENCE))
             if message.number(INTEGER) != self.last:
                 raise ValueError('it answers what was not asked')
             return message.take(*tags)
-        except (ValueError, IndexError) as error:
-            raise Away(f'it does not speak LDAP: {error}') from error
+        return meant(read, self.message())
 
     def message(self) -> bytes:
         while True:
@@ -202,12 +208,22 @@ class Connection:
                 end = head(self.unread, 0)[2]
             except IndexError:
                 end = len(self.unread) + 1
+            except ValueError as error:
+                raise Away(f'it does not speak LDAP: {error}') from error
             if end > MOST_MESSAGE:
-                raise ValueError('it is too long')
+                raise Away('it says too much at once')
             if len(self.unread) >= end:
                 message, self.unread = self.unread[:end], self.unread[end:]
                 return message
             self.unread += self.receive()
+
+
+def meant(read: Callable[[bytes], Any], data: bytes) -> Any:
+    """What the bytes say, as they are read so. Away where they say nothing."""
+    try:
+        return read(data)
+    except (ValueError, IndexError) as error:
+        raise Away(f'it does not speak LDAP: {error}') from error
 
 
 def entry_of(content: bytes) -> tuple[bytes, dict[bytes, list[bytes]]]:

@@ -63,9 +63,10 @@ class Memory:
                 put(self.known, which, now)
 
     def forget_answers(self) -> None:
-        """Each name is asked for again. What was wrong, and what was right before, still counts."""
+        """Each name is asked for again, also what was wrong, which still counts as a guess."""
         with self.lock:
             self.right.clear()
+            self.wrong = {name: {which: (moment, False) for which, (moment, _) in wrong.items()} for name, wrong in self.wrong.items()}
 
 
 def put(kept: dict, key: Any, value: Any) -> None:
