@@ -7,6 +7,7 @@ name with a realm, or one of other letters, has none but by the file: alice@CS.E
 import os
 import re
 
+from guests import NAME as GUEST
 from names import ACCOUNT, Unusable, load
 
 NAME, HOST = r'[A-Za-z0-9_][A-Za-z0-9._+-]{0,63}', r'[A-Za-z0-9]([A-Za-z0-9-]*[A-Za-z0-9])?(\.[A-Za-z0-9]([A-Za-z0-9-]*[A-Za-z0-9])?)*'
@@ -48,7 +49,8 @@ class Addresses:
     def of_name(self, name: bytes | None) -> str | None:
         text = (name or b'').decode('ascii', 'replace')
         address = f'{text}@{self.domain}'
-        return address if re.fullmatch(NAME, text) and is_address(address) else None
+        # A guest's name is no mailbox.
+        return address if re.fullmatch(NAME, text) and not re.fullmatch(GUEST, text) and is_address(address) else None
 
 
 def names_by_account(table: str):
