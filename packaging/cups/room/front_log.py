@@ -27,22 +27,19 @@ class FrontLog:
 
     def tell(self, jobs: dict[str | None, list[Job]]):
         """Adds a line for each of these jobs that is held or refused and is not told yet."""
-        lines, there = [], {}
+        lines, new = [], {}
         for account, of_account in jobs.items():
             for job in of_account:
                 key = key_of(job)
-                if not key:
-                    continue
-                there[key] = True
                 # A job that was held for the same was canceled by its owner, or since it waited for a day.
-                of_hold = (b'held', *key[1:])
-                there.update({of_hold: True} if of_hold in self.told else {})
-                if key not in self.told and of_hold not in self.told:
+                if key and key not in self.told and (b'held', *key[1:]) not in self.told:
                     lines.append(line_of(account, job, key))
+                    new[key] = True
         if lines:
             self.add(lines)
-        # What cupsd has forgotten does not come again.
-        self.told = there
+        # One that goes on may be held for the same again; what cupsd has forgotten does not come again.
+        there = {(job.number, job.made) for of_account in jobs.values() for job in of_account}
+        self.told = {key: True for key in (*self.told, *new) if key[1:3] in there}
 
     def add(self, lines: list[bytes]):
         """Returns once they are on the disk. A line that was cut, by a crash or a full disk, ends before them."""
