@@ -19,8 +19,10 @@ from correcting import Correction, Desk
 from record import Log, shown
 from room import Lines, Lost
 
-# Connections of a door, and of a user at it; seconds: with nothing begun, for a line, for an answer, and the bytes for one more.
-MOST_PEERS, MOST_OF_USER, IDLE, BEGUN, PACE = 16, 8, 60, 10, 16384
+# Connections of a door, and of a user at it: those of four doors leave some of the server's 64 to root and to corrections.
+MOST_PEERS, MOST_OF_USER = 12, 6
+# Seconds with nothing begun, which are fewer than the server's; for a line or an answer; and the bytes for one more.
+IDLE, BEGUN, PACE = 50, 10, 16384
 # Lines of a connection that leave a line in the log though they change nothing, and letters of an answer there.
 MOST_LOGGED, MOST_TOLD = 20, 200
 CREDENTIALS = struct.Struct('3i')
