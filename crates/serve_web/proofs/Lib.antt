@@ -1,3 +1,4 @@
 pub mod FieldLists
 pub mod ForeignForms
 pub mod PageCalls
+mod PagePaths

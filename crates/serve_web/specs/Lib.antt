@@ -13,4 +13,5 @@ pub mod Fields
 pub mod Responses
 pub mod Answers
 pub mod Laws
+pub mod PagePaths
 pub mod ProofPages

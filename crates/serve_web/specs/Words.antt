@@ -1,5 +1,5 @@
 -- Rule: The word that tells why something was refused, as the query of a page has it.
-use Rattle.std.specs.Prelude.{ℕ, ℤ, ◌==◌, Bool, List, [], ◌∷◌, length, drop, Option, Some, None, codes, bytes_eq, find, if◌then◌else◌, option_and_then, option_map}
+use Rattle.std.specs.Prelude.{ℕ, ℤ, Bool, List, length, drop, Option, Some, None, codes, bytes_eq, find, option_and_then, option_map}
 use Rattle.account_replies.specs.Words.{word_name}
 use Rattle.input_http.specs.Words.{before}
 use Rattle.account_rules.specs.QueuePaths.{behind}

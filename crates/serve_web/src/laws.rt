@@ -1,5 +1,6 @@
-//! Laws: a form that another site may have sent does nothing.
+//! Laws: a form that another site may have sent does nothing; and which path leads where.
 ghost use Rattle.serve_web.specs.Laws.{ForeignFormsDoNothing, WithoutOriginNothingIsApplied};
+ghost use Rattle.serve_web.specs.PagePaths.{AsksByItsPath, PathsAreSpelled, PathsLead};
 
 use sqlite::Alter;
 
@@ -13,4 +14,12 @@ pub fn foreign_forms_do_nothing<S: Alter>()
 /// it.
 pub fn without_origin_nothing_is_applied<S: Alter>()
     ensures { WithoutOriginNothingIsApplied S.Store }
+{}
+
+/// A path of a browser leads where its bytes say, and whatever is spelled so leads there. A request
+/// that is not refused asks for the page, the file or the act of that path, so of its account alone.
+pub fn pages_are_by_path()
+    ensures spelled { PathsAreSpelled }
+    ensures lead { PathsLead }
+    ensures asked { AsksByItsPath }
 {}

@@ -20,5 +20,5 @@ mod replaced;
 mod turn;
 mod word;
 
-pub use laws::{foreign_forms_do_nothing, without_origin_nothing_is_applied};
+pub use laws::{foreign_forms_do_nothing, pages_are_by_path, without_origin_nothing_is_applied};
 pub use turn::drive_browser;
