@@ -5,3 +5,4 @@ mod Inquiring
 mod Answering
 mod VisitPlaces
 mod WholeRuns
+mod LinesAsk

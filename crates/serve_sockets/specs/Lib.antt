@@ -10,5 +10,6 @@ pub mod Pages
 pub mod Last
 pub mod Visits
 pub mod EndToEnd
+pub mod LinesAsk
 pub mod Paces
 pub mod Stocks

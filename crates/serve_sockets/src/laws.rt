@@ -1,7 +1,9 @@
-//! Two laws of a hall, proved over any storage: who is told how a round ended has asked in it; and
-//! what goes out on a socket answers, in order, what came on it.
+//! Laws of a hall, proved over any storage: who is told how a round ended has asked in it; and what
+//! goes out on a socket answers, in order, what came on it. And which event a line asks. Nothing
+//! calls them.
 ghost use Rattle.serve_sockets.specs.EndToEnd.{FromEndToEnd};
 ghost use Rattle.serve_sockets.specs.Hearing.{AlwaysHear};
+ghost use Rattle.serve_sockets.specs.LinesAsk.{LinesAsk, MessagesAsk};
 
 use sqlite::Alter;
 
@@ -18,4 +20,12 @@ pub fn always_hear<S: Alter>()
 /// its turn. The tables are what the journal leaves, and a crash finds that.
 pub fn from_end_to_end<S: Alter>()
     ensures { FromEndToEnd S.Store }
+{}
+
+/// A line asks the event that its words say, at its moment: a station's line one of a station, an
+/// operator's one of an operator. `cancel` and `hold` ask what the account's owner would ask by
+/// Cancel-Job and Hold-Job, byte for byte. A message of IPP is asked of its account as it came.
+pub fn lines_ask_what_they_say()
+    ensures lines { LinesAsk }
+    ensures messages { MessagesAsk }
 {}

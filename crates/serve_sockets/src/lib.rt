@@ -25,4 +25,4 @@ pub use clock::moment;
 pub use door::Door;
 pub use doors::{Entrance, Kind, Speech};
 pub use hall::Hall;
-pub use laws::{always_hear, from_end_to_end};
+pub use laws::{always_hear, from_end_to_end, lines_ask_what_they_say};
