@@ -1,7 +1,7 @@
 //! The command `backup`: it connects to an operator's address; `cli_databases` does the rest.
 ghost use Rattle.std.specs.Prelude.{◌≤◌, IfOk};
 
-use cli_asking::{BUFFER, at_path, at_port};
+use cli_asking::{BUFFER, Patient, at_path, at_port};
 use cli_databases::back_up;
 use cli_words::{Address, BackingUp, Fault};
 use client_lines::Peer;
@@ -28,7 +28,8 @@ pub(crate) fn run_backup<O: Write>(
     }
 }
 
-/// Does the backup over a stream that is connected, and answers the exit status.
+/// Does the backup over a stream that is connected, and answers the exit status. Standard error is
+/// told meanwhile how much is copied.
 fn back_up_over_stream<R: Read + Drop, W: Write + Drop, O: Write>(
     rt: &HostRuntime,
     asked: &BackingUp<'_>,
@@ -39,7 +40,8 @@ fn back_up_over_stream<R: Read + Drop, W: Write + Drop, O: Write>(
     ensures { IfOk result (λ status. status ≤ 5) }
 {
     let alloc = rt.alloc();
-    let reader = BufReader::with_capacity(alloc, BUFFER, reader)?;
+    let patient = Patient::new(rt, reader, asked.file)?;
+    let reader = BufReader::with_capacity(alloc, BUFFER, patient)?;
     let writer = BufWriter::with_capacity(alloc, BUFFER, writer)?;
     let mut peer = Peer::new(reader, writer);
     Ok(back_up(rt, &mut peer, asked, output, &mut rt.stderr()))
