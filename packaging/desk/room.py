@@ -140,11 +140,19 @@ class Lines:
         self.close()
 
 
+def listed(lines: Lines, asked: str, word: bytes) -> list[bytes]:
+    """The lines of a list. Refused where the answer is another; Lost where it may be none but now."""
+    first, *rest = lines.ask(asked.encode())
+    if first == b'failed':
+        raise Lost('failed')
+    if not first.startswith(word):
+        raise Refused(first.decode('ascii', 'replace'))
+    return rest
+
+
 def grants_of(lines: Lines, account: str) -> dict[str, int]:
     """The pages of each month that has a grant. Refused where there is no account."""
-    first, *rest = lines.ask(f'grants {account}'.encode())
-    if not first.startswith(b'grants '):
-        raise Refused(first.decode('ascii', 'replace'))
+    rest = listed(lines, f'grants {account}', b'grants ')
     try:
         return {month: int(pages) for _, month, pages in (line.decode().split(' ') for line in rest)}
     except ValueError as error:
@@ -153,9 +161,7 @@ def grants_of(lines: Lines, account: str) -> dict[str, int]:
 
 def jobs_of(lines: Lines, asked: str) -> list[Job]:
     """The jobs that an operator's `jobs` or `ended` is answered with. Refused where it has none of the account."""
-    first, *rest = lines.ask(asked.encode())
-    if not first.startswith(b'jobs '):
-        raise Refused(first.decode('ascii', 'replace'))
+    rest = listed(lines, asked, b'jobs ')
     try:
         return [job_of(line) for line in rest]
     except ValueError as error:
