@@ -26,6 +26,7 @@ use Rattle.serve_web.specs.Answers.{Answers}
 use Rattle.serve_web.specs.ProofPages.{answers_continue}
 use Rattle.serve_sockets.specs.Guests.{AsksAgain, TakesTurn, Turns, in_round, of_socket}
 use Rattle.serve_sockets.specs.Halls.{Ask, Begin, BeginsRound, Does, DoesAll, Drop, Enter, GoesOn, Keep, Leave, Serve, Serves, Settle, SettlesRound, Step}
+use Rattle.serve_sockets.specs.declared.doors.Speech.{Speech}
 use Rattle.serve_sockets.specs.declared.guest.Guest.{Guest}
 use Rattle.serve_sockets.specs.declared.guest.Peer.{Peer}
 use Rattle.serve_sockets.specs.declared.guest.Peer.TheVariants.{Http, Last, Lines, Pages}
@@ -103,7 +104,7 @@ module _ {S : Type 0} (store : Ghosts S) where
   ]
   step_pin (Serve key) a b old new does = serves_pin _ _ old new does.1
   step_pin (Drop key) a b old new does = ap (λ (served : Served S). needs_password_of served) does.2
-  step_pin Enter a b old new does = ap (λ (served : Served S). needs_password_of served) does.1
+  step_pin (Enter doors) a b old new does = ap (λ (served : Served S). needs_password_of served) does.1
   step_pin Leave a b old new does = ap (λ (served : Served S). needs_password_of served) does.1
 
   pub same_pin : (steps : List Step) (a b : Slab Guest) (old new : Served S) → DoesAll store steps a b old new → needs_password_of new ≡ needs_password_of old
@@ -157,7 +158,7 @@ module _ {S : Type 0} (store : Ghosts S) where
   ]
   step_clean (Serve key) a b old new does clean = serves_clean _ _ old new does.1 clean
   step_clean (Drop key) a b old new does clean = same_clean old new (ap (λ (served : Served S). store_of served) does.2) clean
-  step_clean Enter a b old new does clean = same_clean old new (ap (λ (served : Served S). store_of served) does.1) clean
+  step_clean (Enter doors) a b old new does clean = same_clean old new (ap (λ (served : Served S). store_of served) does.1) clean
   step_clean Leave a b old new does clean = same_clean old new (ap (λ (served : Served S). store_of served) does.1) clean
 
   pub all_clean : (steps : List Step) (a b : Slab Guest) (old new : Served S) → DoesAll store steps a b old new → IsClean new → IsClean old
@@ -322,7 +323,7 @@ module _ {S : Type 0} (store : Ghosts S) where
   step_served Settle a b old mid new is does = settles_served old mid new is does.1
   step_served (Serve key) a b old mid new is does = serves_served _ _ old mid new is does.1
   step_served (Drop key) a b old mid new is does = subst (λ (served : Served S). IsServed old served) (sym does.2) is
-  step_served Enter a b old mid new is does = subst (λ (served : Served S). IsServed old served) (sym does.1) is
+  step_served (Enter doors) a b old mid new is does = subst (λ (served : Served S). IsServed old served) (sym does.1) is
   step_served Leave a b old mid new is does = subst (λ (served : Served S). IsServed old served) (sym does.1) is
 
   all_served : (steps : List Step) (a b : Slab Guest) (old mid new : Served S) → IsServed old mid → DoesAll store steps a b mid new → IsServed old new
@@ -337,5 +338,5 @@ module _ {S : Type 0} (store : Ghosts S) where
   served_by steps a b old new does alone none =
       all_served steps a b old old new (inl (record { alone = alone; none_left = none; follows = record { more = []; over = sym (append-nil (rounds_of old)); settles = refl } })) does
 
-  pub follows : (a b : Slab Guest) (old new : Served S) → GoesOn store a b old new → shares_of old ≡ false → open_of old ≡ [] → Follows store old new
-  follows a b old new goes alone none = follows_if_alone old new (served_by goes.0 a b old new goes.1 alone none) (goes.2 alone)
+  pub follows : (doors : List Speech) (a b : Slab Guest) (old new : Served S) → GoesOn store doors a b old new → shares_of old ≡ false → open_of old ≡ [] → Follows store old new
+  follows doors a b old new goes alone none = follows_if_alone old new (served_by goes.0 a b old new goes.1 alone none) (goes.2 alone)

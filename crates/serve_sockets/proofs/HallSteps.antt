@@ -1,5 +1,5 @@
 -- Who leaves and who comes in, and what goes on in a hall, one thing after another.
-use Rattle.std.proofs.Common.{◌≡◌, ◌≢◌, ◌⊎◌, ◌-◌, ◌≤◌, ℕ, Bool, true, false, IsTrue, List, [], ◌∷◌, ◌++◌, map, Option, None, Some, is_some, IsSomeAnd, Result, Ok, Err, IfOk, OnErr, refl, sym, ap, ◌∙◌, subst, inl, inr, arith}
+use Rattle.std.proofs.Common.{◌≡◌, ◌≢◌, ◌⊎◌, ◌+◌, ◌-◌, ◌≤◌, ℕ, suc, Bool, true, false, IsTrue, List, [], ◌∷◌, ◌++◌, map, slice_get, Option, None, Some, is_some, IsSomeAnd, Result, Ok, Err, IfOk, OnErr, refl, sym, ap, ◌∙◌, subst, inl, inr, arith}
 use Rattle.std.proofs.lemmas.Bool.{cases_Bool, cases_eq, true≢false}
 use Rattle.std.proofs.lemmas.Bool.Decides.{nat_tests}
 use Rattle.std.proofs.lemmas.List.{map-append}
@@ -20,7 +20,7 @@ use Rattle.serve_peers.specs.declared.step.Next.TheVariants.{Close}
 use Rattle.serve_peers.specs.declared.step.Turn.{Turn}
 use Rattle.serve_sockets.proofs.Drives.{serves_shares}
 use Rattle.serve_sockets.specs.Guests.{CameBy, IsNew, NobodyWaits, Turns, asked_in, is_waiting, peer_of, turns_of}
-use Rattle.serve_sockets.specs.Halls.{AreOthersKept, Ask, Begin, BeginsRound, Does, DoesAll, Drop, Enter, GoesOn, IsAtMoment, IsDriven, IsServedFirst, IsSpared, Keep, Leave, MayGo, MayLeave, OnlyAsk, OnlyEnter, OnlyLeave, OnlyServe, Serve, Serves, ServesAt, ServesEach, ServesThose, Settle, SettlesRound, SharesRound, StaysAfter, Step, key_told, keys_told}
+use Rattle.serve_sockets.specs.Halls.{AllEnterBy, AreOthersKept, Ask, Begin, BeginsRound, Does, DoesAll, Drop, Enter, GoesOn, IsAtMoment, IsDriven, IsServedFirst, IsSpared, Keep, Leave, MayGo, MayLeave, OnlyAsk, OnlyEnter, OnlyLeave, OnlyServe, Serve, Serves, ServesAt, ServesEach, ServesThose, Settle, SettlesRound, SharesRound, StaysAfter, Step, key_told, keys_told}
 use Rattle.serve_sockets.specs.declared.doors.Speech.{Speech}
 use Rattle.serve_sockets.specs.declared.clock.Reading.{Reading}
 use Rattle.serve_sockets.specs.declared.guest.Guest.{Guest}
@@ -63,40 +63,42 @@ may_go_after was mid now same may =
 
 -- ---- who comes in
 
-pub nobody_enters : (old new : Slab Guest) → SameValues old new → OnlyEnter old new
-nobody_enters old new same key = inl (same key)
+pub nobody_enters : (doors : List Speech) (old new : Slab Guest) → SameValues old new → OnlyEnter doors old new
+nobody_enters doors old new same key = inl (same key)
 
-no_guest : (slot : Option Guest) → slot ≡ None → IsSomeAnd slot IsNew → ⊥
-no_guest None is some = some
-no_guest (Some guest) is some = absurd (cc)
+no_guest : (doors : List Speech) (slot : Option Guest) → slot ≡ None → IsSomeAnd slot (IsNew doors) → ⊥
+no_guest doors None is some = some
+no_guest doors (Some guest) is some = absurd (cc)
 
-pub enter_then : (a b c : Slab Guest) → OnlyEnter a b → OnlyEnter b c → OnlyEnter a c
-enter_then a b c first later key =
+pub enter_then : (doors : List Speech) (a b c : Slab Guest) → OnlyEnter doors a b → OnlyEnter doors b c → OnlyEnter doors a c
+enter_then doors a b c first later key =
     elim (later key) [
       | inl kept ↦ elim (first key) [
         | inl was ↦ inl (kept ∙ was)
-        | inr came ↦ inr (came.0, subst (λ (slot : Option Guest). IsSomeAnd slot IsNew) (sym kept) came.1)
+        | inr came ↦ inr (came.0, subst (λ (slot : Option Guest). IsSomeAnd slot (IsNew doors)) (sym kept) came.1)
       ]
       | inr came ↦ elim (first key) [
         | inl was ↦ inr (sym was ∙ came.0, came.1)
-        | inr before ↦ absurd (no_guest (get b key) came.0 before.1)
+        | inr before ↦ absurd (no_guest doors (get b key) came.0 before.1)
       ]
     ]
 
-pub one_enters : (key : ℕ) (old new : Slab Guest) (guest : Guest) → get old key ≡ None → get new key ≡ Some guest → IsNew guest → AreOthersKept key old new → OnlyEnter old new
-one_enters key old new guest vacant there is others other =
+pub one_enters : (doors : List Speech) (key : ℕ) (old new : Slab Guest) (guest : Guest) → get old key ≡ None → get new key ≡ Some guest → IsNew doors guest → AreOthersKept key old new → OnlyEnter doors old new
+one_enters doors key old new guest vacant there is others other =
     elim (cases_eq other key) [
-      | inl same ↦ inr (ap (get old) same ∙ vacant, subst (λ (slot : Option Guest). IsSomeAnd slot IsNew) (sym (ap (get new) same ∙ there)) is)
+      | inl same ↦ inr (ap (get old) same ∙ vacant, subst (λ (slot : Option Guest). IsSomeAnd slot (IsNew doors)) (sym (ap (get new) same ∙ there)) is)
       | inr differs ↦ inl (others other differs)
     ]
 
-pub is_new : (speech : Speech) (peer : Peer) (guest begun : Guest) → CameBy speech peer → peer_of begun ≡ peer → turns_of begun ≡ [] → asked_in begun ≡ [] → guest ≡ begun → IsNew guest
-is_new speech peer guest begun came is none asked same = subst (λ (it : Guest). IsNew it) (sym same) (speech, subst (λ (it : Peer). CameBy speech it) (sym is) came, none, asked)
+-- it came in by the door in this place
+pub is_new : (doors : List Speech) (place : ℕ) (speech : Speech) (peer : Peer) (guest begun : Guest) → slice_get doors place ≡ Some speech → CameBy speech peer → peer_of begun ≡ peer → turns_of begun ≡ [] → asked_in begun ≡ [] → begun.door ≡ place → guest ≡ begun → IsNew doors guest
+is_new doors place speech peer guest begun at came is none asked door same =
+    subst (λ (it : Guest). IsNew doors it) (sym same) (speech, subst (λ (it : Peer). CameBy speech it) (sym is) came, none, asked, ap (λ (n : ℕ). slice_get doors n) door ∙ at)
 
 -- an insert lets one in, or fails and changes nobody
-pub inserted : {E : Type 0} → (old new : Slab Guest) (guest : Guest) (r : Result ℕ E) → IsNew guest → IfOk r (λ key. get old key ≡ None) → IfOk r (λ key. Updates old new key (Some guest)) → OnErr r (new ≡ record old { capacity = new.capacity }) → OnlyEnter old new
-inserted old new guest (Ok key) is vacant updates err = one_enters key old new guest vacant updates.changed is updates.others
-inserted old new guest (Err e) is vacant updates err = λ key. inl (ap (λ (guests : Slab Guest). get guests key) err)
+pub inserted : {E : Type 0} → (doors : List Speech) (old new : Slab Guest) (guest : Guest) (r : Result ℕ E) → IsNew doors guest → IfOk r (λ key. get old key ≡ None) → IfOk r (λ key. Updates old new key (Some guest)) → OnErr r (new ≡ record old { capacity = new.capacity }) → OnlyEnter doors old new
+inserted doors old new guest (Ok key) is vacant updates err = one_enters doors key old new guest vacant updates.changed is updates.others
+inserted doors old new guest (Err e) is vacant updates err = λ key. inl (ap (λ (guests : Slab Guest). get guests key) err)
 
 -- ---- who waits to hear of a round
 
@@ -107,9 +109,9 @@ none_there (Some entry) none = absurd (cc)
 waits_not : (guest : Guest) → asked_in guest ≡ [] → is_waiting (Some guest) ≡ false
 waits_not guest none = none_there guest.asked none
 
-pub new_waits_not : (slot : Option Guest) → IsSomeAnd slot IsNew → is_waiting slot ≡ false
-new_waits_not None is = refl
-new_waits_not (Some guest) is = waits_not guest is.3
+pub new_waits_not : (doors : List Speech) (slot : Option Guest) → IsSomeAnd slot (IsNew doors) → is_waiting slot ≡ false
+new_waits_not doors None is = refl
+new_waits_not doors (Some guest) is = waits_not guest is.3
 
 -- who does not wait now but for who did before
 waits_before : (was now : Option Guest) → now ≡ was → IsTrue (is_waiting now) → IsTrue (is_waiting was)
@@ -128,11 +130,11 @@ nobody_before a b same nobody key = ap is_waiting (sym (same key)) ∙ nobody ke
 pub nobody_as : (a b : Slab Guest) → SameValues a b → NobodyWaits a → NobodyWaits b
 nobody_as a b same nobody key = ap is_waiting (same key) ∙ nobody key
 
-pub nobody_entered : (a b : Slab Guest) → OnlyEnter a b → NobodyWaits a → NobodyWaits b
-nobody_entered a b enters nobody key =
+pub nobody_entered : (doors : List Speech) (a b : Slab Guest) → OnlyEnter doors a b → NobodyWaits a → NobodyWaits b
+nobody_entered doors a b enters nobody key =
     elim (enters key) [
       | inl same ↦ ap is_waiting same ∙ nobody key
-      | inr came ↦ new_waits_not (get b key) came.1
+      | inr came ↦ new_waits_not doors (get b key) came.1
     ]
 
 pub nobody_left : (a b : Slab Guest) → OnlyLeave a b → NobodyWaits a → NobodyWaits b
@@ -163,7 +165,7 @@ first_then key (Serve other ∷ steps) more is =
       | inr later ↦ inr (first_then key steps more later)
     ]
 first_then key (Drop other ∷ steps) more is = (is.0, first_then key steps more is.1)
-first_then key (Enter ∷ steps) more is = absurd is
+first_then key (Enter doors ∷ steps) more is = absurd is
 first_then key (Leave ∷ steps) more is = absurd is
 
 spared_then_first : (key : ℕ) (steps more : List Step) → IsSpared key steps → IsServedFirst key more → IsServedFirst key (steps ++ more)
@@ -178,7 +180,7 @@ spared_then_first key (Serve other ∷ steps) more is first =
       | inr later ↦ inr (spared_then_first key steps more later first)
     ]
 spared_then_first key (Drop other ∷ steps) more is first = (is.0, spared_then_first key steps more is.1 first)
-spared_then_first key (Enter ∷ steps) more is first = absurd is
+spared_then_first key (Enter doors ∷ steps) more is first = absurd is
 spared_then_first key (Leave ∷ steps) more is first = absurd is
 
 spared_then : (key : ℕ) (steps more : List Step) → IsSpared key steps → IsSpared key more → IsSpared key (steps ++ more)
@@ -193,7 +195,7 @@ spared_then key (Serve other ∷ steps) more is later =
       | inr rest ↦ inr (spared_then key steps more rest later)
     ]
 spared_then key (Drop other ∷ steps) more is later = (is.0, spared_then key steps more is.1 later)
-spared_then key (Enter ∷ steps) more is later = absurd is
+spared_then key (Enter doors ∷ steps) more is later = absurd is
 spared_then key (Leave ∷ steps) more is later = absurd is
 
 spared_by_turn : (key other : ℕ) → IsSpared other (Serve key ∷ Drop key ∷ [])
@@ -215,8 +217,51 @@ only_serve_then (Keep ∷ steps) more is later = absurd is
 only_serve_then (Begin ∷ steps) more is later = absurd is
 only_serve_then (Ask key ∷ steps) more is later = absurd is
 only_serve_then (Settle ∷ steps) more is later = absurd is
-only_serve_then (Enter ∷ steps) more is later = absurd is
+only_serve_then (Enter doors ∷ steps) more is later = absurd is
 only_serve_then (Leave ∷ steps) more is later = absurd is
+
+-- ---- who comes in by which doors
+
+enter_by_then : (doors : List Speech) (steps more : List Step) → AllEnterBy doors steps → AllEnterBy doors more → AllEnterBy doors (steps ++ more)
+enter_by_then doors [] more by later = later
+enter_by_then doors (step ∷ steps) more by later = (by.0, enter_by_then doors steps more by.1 later)
+
+serve_by : (doors : List Speech) (steps : List Step) → OnlyServe steps → AllEnterBy doors steps
+serve_by doors [] only = tt
+serve_by doors (Serve key ∷ steps) only = (tt, serve_by doors steps only)
+serve_by doors (Drop key ∷ steps) only = (tt, serve_by doors steps only)
+serve_by doors (Keep ∷ steps) only = absurd only
+serve_by doors (Begin ∷ steps) only = absurd only
+serve_by doors (Ask key ∷ steps) only = absurd only
+serve_by doors (Settle ∷ steps) only = absurd only
+serve_by doors (Enter these ∷ steps) only = absurd only
+serve_by doors (Leave ∷ steps) only = absurd only
+
+-- a key above those of all that are served
+above : List Step → ℕ
+above [] = 0
+above (Serve key ∷ steps) = suc (key + above steps)
+above (Keep ∷ steps) = above steps
+above (Begin ∷ steps) = above steps
+above (Ask key ∷ steps) = above steps
+above (Settle ∷ steps) = above steps
+above (Drop key ∷ steps) = above steps
+above (Enter doors ∷ steps) = above steps
+above (Leave ∷ steps) = above steps
+
+-- where nobody is let go who was not served, nobody comes in
+spared_by : (doors : List Speech) (steps : List Step) (key : ℕ) → above steps ≤ key → IsSpared key steps → AllEnterBy doors steps
+unfolding above
+spared_by doors [] key high is = tt
+spared_by doors (Serve other ∷ steps) key high (inl same) = absurd (omega (arith, high, same))
+spared_by doors (Serve other ∷ steps) key high (inr is) = (tt, spared_by doors steps key (omega (arith, high)) is)
+spared_by doors (Drop other ∷ steps) key high is = (tt, spared_by doors steps key high is.1)
+spared_by doors (Keep ∷ steps) key high is = (tt, spared_by doors steps key high is)
+spared_by doors (Begin ∷ steps) key high is = (tt, spared_by doors steps key high is)
+spared_by doors (Ask other ∷ steps) key high is = (tt, spared_by doors steps key high is)
+spared_by doors (Settle ∷ steps) key high is = (tt, spared_by doors steps key high is)
+spared_by doors (Enter these ∷ steps) key high is = absurd is
+spared_by doors (Leave ∷ steps) key high is = absurd is
 
 -- ---- one thing after another
 
@@ -228,7 +273,7 @@ module _ {S : Type 0} (store : Ghosts S) where
   from_same_step Settle a b c before after same is = (λ key. is.0 key ∙ same key, is.1)
   from_same_step (Serve key) a b c before after same is = (is.0, subst (λ (was : Option Guest). Serves store was (get c key) before after) (same key) is.1, λ other differs. is.2 other differs ∙ same other)
   from_same_step (Drop key) a b c before after same is = (may_go_after (get a key) (get b key) (get c key) (same key) is.0, λ other differs. is.1 other differs ∙ same other, is.2)
-  from_same_step Enter a b c before after same is = (enter_then a b c (nobody_enters a b same) is.0, is.1)
+  from_same_step (Enter doors) a b c before after same is = (enter_then doors a b c (nobody_enters doors a b same) is.0, is.1)
   from_same_step Leave a b c before after same is = (leave_then a b c (nobody_leaves a b same) is.0, is.1)
 
   from_same : (steps : List Step) (a b c : Slab Guest) (before after : Served S) → SameValues a b → DoesAll store steps b c before after → DoesAll store steps a c before after
@@ -254,24 +299,29 @@ module _ {S : Type 0} (store : Ghosts S) where
 
   -- ---- steps
 
-  pub same : (a b : Slab Guest) (served : Served S) → SameValues a b → GoesOn store a b served served
-  same a b served is = ([], (is, refl), λ alone. alone)
+  pub same : (doors : List Speech) (a b : Slab Guest) (served : Served S) → SameValues a b → GoesOn store doors a b served served
+  same doors a b served is = ([], (is, refl), (λ alone. alone), tt)
 
-  pub then : (a b c : Slab Guest) (old mid new : Served S) → GoesOn store a b old mid → GoesOn store b c mid new → GoesOn store a c old new
-  then a b c old mid new first later = (first.0 ++ later.0, all_then first.0 later.0 a b c old mid new first.1 later.1, λ alone. later.2 (first.2 alone))
+  pub then : (doors : List Speech) (a b c : Slab Guest) (old mid new : Served S) → GoesOn store doors a b old mid → GoesOn store doors b c mid new → GoesOn store doors a c old new
+  then doors a b c old mid new first later =
+      (first.0 ++ later.0, all_then first.0 later.0 a b c old mid new first.1 later.1, (λ alone. later.2 (first.2 alone)), enter_by_then doors first.0 later.0 first.3 later.3)
 
-  pub leaves : (a b : Slab Guest) (served : Served S) → OnlyLeave a b → GoesOn store a b served served
-  leaves a b served is = (Leave ∷ [], (b, served, (is, refl), (λ other. refl, refl)), λ alone. alone)
+  -- the same, where the doors behind it are the same
+  pub then_by : (doors these : List Speech) (a b c : Slab Guest) (old mid new : Served S) → these ≡ doors → GoesOn store doors a b old mid → GoesOn store these b c mid new → GoesOn store doors a c old new
+  then_by doors these a b c old mid new same first later = then doors a b c old mid new first (subst (λ (behind : List Speech). GoesOn store behind b c mid new) same later)
+
+  pub leaves : (doors : List Speech) (a b : Slab Guest) (served : Served S) → OnlyLeave a b → GoesOn store doors a b served served
+  leaves doors a b served is = (Leave ∷ [], (b, served, (is, refl), (λ other. refl, refl)), (λ alone. alone), (tt, tt))
 
   -- what a backup asked for is done before what follows
-  pub kept_first : (a b : Slab Guest) (old mid new : Served S) → OnlyKeeps store old mid → GoesOn store a b mid new → GoesOn store a b old new
-  kept_first a b old mid new keeps goes = (Keep ∷ goes.0, (a, mid, ((λ key. refl), keeps), goes.1), λ alone. goes.2 (keeps.0.shares ∙ alone))
+  pub kept_first : (doors : List Speech) (a b : Slab Guest) (old mid new : Served S) → OnlyKeeps store old mid → GoesOn store doors a b mid new → GoesOn store doors a b old new
+  kept_first doors a b old mid new keeps goes = (Keep ∷ goes.0, (a, mid, ((λ key. refl), keeps), goes.1), (λ alone. goes.2 (keeps.0.shares ∙ alone)), (tt, goes.3))
 
-  pub kept_then_served : (keys : List ℕ) (a b : Slab Guest) (old mid new : Served S) → OnlyKeeps store old mid → ServesThose store keys a b mid new → ServesThose store keys a b old new
-  kept_then_served keys a b old mid new keeps serves = (Keep ∷ serves.0, (a, mid, ((λ key. refl), keeps), serves.1), (λ alone. serves.2 (keeps.0.shares ∙ alone)), serves.3)
+  pub kept_then_served : (doors : List Speech) (keys : List ℕ) (a b : Slab Guest) (old mid new : Served S) → OnlyKeeps store old mid → ServesThose store doors keys a b mid new → ServesThose store doors keys a b old new
+  kept_then_served doors keys a b old mid new keeps serves = (Keep ∷ serves.0, (a, mid, ((λ key. refl), keeps), serves.1), (λ alone. serves.2 (keeps.0.shares ∙ alone)), serves.3, (tt, serves.4))
 
-  pub enters : (a b : Slab Guest) (served : Served S) → OnlyEnter a b → GoesOn store a b served served
-  enters a b served is = (Enter ∷ [], (b, served, (is, refl), (λ other. refl, refl)), λ alone. alone)
+  pub enters : (doors : List Speech) (a b : Slab Guest) (served : Served S) → OnlyEnter doors a b → GoesOn store doors a b served served
+  enters doors a b served is = (Enter doors ∷ [], (b, served, (is, refl), (λ other. refl, refl)), (λ alone. alone), (refl, tt))
 
   -- ---- a round
 
@@ -358,7 +408,7 @@ module _ {S : Type 0} (store : Ghosts S) where
   serve_shares (Begin ∷ steps) a b old new only is = absurd only
   serve_shares (Ask key ∷ steps) a b old new only is = absurd only
   serve_shares (Settle ∷ steps) a b old new only is = absurd only
-  serve_shares (Enter ∷ steps) a b old new only is = absurd only
+  serve_shares (Enter doors ∷ steps) a b old new only is = absurd only
   serve_shares (Leave ∷ steps) a b old new only is = absurd only
 
   turn_heard : (shares : Bool) (turn : Turn) (next : Next) (guest left : Guest) (old new : Served S) → shares ≡ false → Turns store shares turn next guest left old new → asked_in left ≡ []
@@ -396,7 +446,7 @@ module _ {S : Type 0} (store : Ghosts S) where
   waited_before (Begin ∷ steps) a b old new key only is waits = absurd only
   waited_before (Ask other ∷ steps) a b old new key only is waits = absurd only
   waited_before (Settle ∷ steps) a b old new key only is waits = absurd only
-  waited_before (Enter ∷ steps) a b old new key only is waits = absurd only
+  waited_before (Enter doors ∷ steps) a b old new key only is waits = absurd only
   waited_before (Leave ∷ steps) a b old new key only is waits = absurd only
 
   -- who is served has heard
@@ -412,7 +462,7 @@ module _ {S : Type 0} (store : Ghosts S) where
   has_heard (Begin ∷ steps) a b old new key only first is waits = absurd only
   has_heard (Ask other ∷ steps) a b old new key only first is waits = absurd only
   has_heard (Settle ∷ steps) a b old new key only first is waits = absurd only
-  has_heard (Enter ∷ steps) a b old new key only first is waits = absurd only
+  has_heard (Enter doors ∷ steps) a b old new key only first is waits = absurd only
   has_heard (Leave ∷ steps) a b old new key only first is waits = absurd only
 
   -- ---- of whom the system told
@@ -447,17 +497,20 @@ module _ {S : Type 0} (store : Ghosts S) where
   -- ---- a pass, behind its wait
 
   -- some share a round, and then each is served
-  pub told_serves : (keys : List ℕ) (a b c d : Slab Guest) (old mid new : Served S) → NobodyWaits a → SharesRound store keys a b old mid → ServesEach store keys b c mid new → GoesOn store c d new new → ServesThose store keys a d old new
-  told_serves keys a b c d old mid new nobody shares serves rest =
+  pub told_serves : (doors : List Speech) (keys : List ℕ) (a b c d : Slab Guest) (old mid new : Served S) → NobodyWaits a → SharesRound store keys a b old mid → ServesEach store keys b c mid new → GoesOn store doors c d new new → ServesThose store doors keys a d old new
+  told_serves doors keys a b c d old mid new nobody shares serves rest =
       let first = shares nobody in
       let then_serves = serves first.2 in
       let steps : List Step = first.0 ++ then_serves.0 in
       let all : List Step = steps ++ rest.0 in
-      let is : DoesAll store steps a c old new = all_then first.0 then_serves.0 a b c old mid new first.1 then_serves.1 in (
+      let is : DoesAll store steps a c old new = all_then first.0 then_serves.0 a b c old mid new first.1 then_serves.1 in
+      let shared_by : AllEnterBy doors first.0 = spared_by doors first.0 (above first.0) (omega arith) (first.3 (above first.0)) in
+      let served_by : AllEnterBy doors steps = enter_by_then doors first.0 then_serves.0 shared_by (serve_by doors then_serves.0 then_serves.2) in (
         all,
         all_then steps rest.0 a c d old new new is rest.1,
         (λ alone. serve_shares then_serves.0 b c mid new then_serves.2 then_serves.1 ∙ first.2),
         All-weaker (λ key. IsServedFirst key then_serves.0) (λ key. IsServedFirst key all) (λ key it. first_then key steps rest.0 (spared_then_first key first.0 then_serves.0 (first.3 key) it)) keys then_serves.4,
+        enter_by_then doors steps rest.0 served_by rest.3,
       )
 
   -- and whoever asked in it has heard
@@ -469,11 +522,11 @@ module _ {S : Type 0} (store : Ghosts S) where
       let asked = first.4 key (waited_before is.0 b c mid new key is.2 is.1 waits) in
       has_heard is.0 b c mid new key is.2 (All-contains (λ it. IsServedFirst it is.0) keys key is.4 asked) is.1 waits)
 
-  pub serves_none : (keys : List ℕ) (a b : Slab Guest) (old new : Served S) → keys ≡ [] → GoesOn store a b old new → ServesThose store keys a b old new
-  serves_none keys a b old new none is = subst (λ (told : List ℕ). ServesThose store told a b old new) (sym none) (is.0, is.1, is.2, All-nil (λ key. IsServedFirst key is.0))
+  pub serves_none : (doors : List Speech) (keys : List ℕ) (a b : Slab Guest) (old new : Served S) → keys ≡ [] → GoesOn store doors a b old new → ServesThose store doors keys a b old new
+  serves_none doors keys a b old new none is = subst (λ (told : List ℕ). ServesThose store doors told a b old new) (sym none) (is.0, is.1, is.2, All-nil (λ key. IsServedFirst key is.0), is.3)
 
-  pub goes_on : (keys : List ℕ) (a b : Slab Guest) (old new : Served S) → ServesThose store keys a b old new → GoesOn store a b old new
-  goes_on keys a b old new is = (is.0, is.1, is.2)
+  pub goes_on : (doors : List Speech) (keys : List ℕ) (a b : Slab Guest) (old new : Served S) → ServesThose store doors keys a b old new → GoesOn store doors a b old new
+  goes_on doors keys a b old new is = (is.0, is.1, is.2, is.4)
 
 -- an event tells of the peer of a key
 pub key_named : (event : Event) (token key : ℕ) → token ≡ (event_token event).0 → SomeIff (Some key) (MOST_DOORS ≤ token) (token - MOST_DOORS) → keys_told (event ∷ []) ≡ key ∷ []

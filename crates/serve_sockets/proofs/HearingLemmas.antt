@@ -167,10 +167,10 @@ module _ {S : Type 0} (store : Ghosts S) where
         | inl same ↦ hears_left (get a key) (get b key) new (subst (λ (it : ℕ). MayGo (get a it) (get b it)) (sym same) does.0) now
         | inr differs ↦ hears_as (get a key) (get b key) new (does.1 key differs) now
       ]
-  step_hears Enter a b old new does hears = λ key.
+  step_hears (Enter doors) a b old new does hears = λ key.
       elim (does.0 key) [
         | inl same ↦ hears_as (get a key) (get b key) new same (hears_still (get a key) old new (same_keeps old new does.1) (hears key))
-        | inr came ↦ nothing_to_hear (get b key) new (new_waits_not (get b key) came.1)
+        | inr came ↦ nothing_to_hear (get b key) new (new_waits_not doors (get b key) came.1)
       ]
   step_hears Leave a b old new does hears = λ key. hears_left (get a key) (get b key) new (does.0 key) (hears_still (get a key) old new (same_keeps old new does.1) (hears key))
 

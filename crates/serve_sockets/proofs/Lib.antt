@@ -6,3 +6,4 @@ mod Answering
 mod VisitPlaces
 mod WholeRuns
 mod LinesAsk
+mod ByDoors

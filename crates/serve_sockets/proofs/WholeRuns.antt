@@ -33,6 +33,7 @@ use Rattle.serve_peers.specs.declared.step.Next.{Next}
 use Rattle.serve_peers.specs.declared.step.Next.TheVariants.{Close}
 use Rattle.serve_peers.specs.declared.step.Turn.{Turn}
 use Rattle.serve_sockets.proofs.Answering.{answered_longer, none_there, places_from, stand_behind, turn_answered, turn_tells, was_answered, was_longer}
+use Rattle.serve_sockets.proofs.ByDoors.{visits_by}
 use Rattle.serve_sockets.proofs.Drives.{IsClean, IsServed, again_continues, as_served, like, same_pin, served_by, served_continues, serves_shares, step_clean, step_served, turn_continues}
 use Rattle.serve_sockets.proofs.VisitPlaces.{Grew, IsShared, Split, at_it, at_others, grew_by, grew_not, grew_then, grown_shared, left_shared, next_places, turned_shared}
 use Rattle.serve_sockets.proofs.Inquiring.{grown_alone, grown_by, journal_is, lives_on, runs_so}
@@ -416,14 +417,14 @@ module _ {S : Type 0} (store : Ghosts S) (before : Served S) (fresh : IsFresh be
   may_go step shares lost (Some guest) now had turns end served quiet (inr gone) going =
       goes step shares lost (Some guest) (Some guest) now had turns end served quiet gone (gone_over shares lost guest now had served gone going) (gone_or shares lost guest now had served going)
 
-  new_goes : (shares lost : Bool) (slot : Option Guest) (served : Served S) → IsSomeAnd slot IsNew → IsGoing shares lost slot [] served
-  new_goes shares lost None served is = refl
-  new_goes shares lost (Some guest) served is = settled_goes shares lost guest [] served is.3 (new_answered is.0 (peer_of guest) (journal_of served) is.1)
+  new_goes : (doors : List Speech) (shares lost : Bool) (slot : Option Guest) (served : Served S) → IsSomeAnd slot (IsNew doors) → IsGoing shares lost slot [] served
+  new_goes doors shares lost None served is = refl
+  new_goes doors shares lost (Some guest) served is = settled_goes shares lost guest [] served is.3 (new_answered is.0 (peer_of guest) (journal_of served) is.1)
 
-  came_in : (step : Step) (shares lost : Bool) (was now : Option Guest) (had : List ℕ) (turns : Type 0) (end : ℕ) (served : Served S) → IsQuiet turns end (log_of shares served) → was ≡ None → IsSomeAnd now IsNew → IsGoing shares lost was had served → Fate step shares lost was was now had turns end served
-  came_in step shares lost was now had turns end served quiet vacant is going =
+  came_in : (doors : List Speech) (step : Step) (shares lost : Bool) (was now : Option Guest) (had : List ℕ) (turns : Type 0) (end : ℕ) (served : Served S) → IsQuiet turns end (log_of shares served) → was ≡ None → IsSomeAnd now (IsNew doors) → IsGoing shares lost was had served → Fate step shares lost was was now had turns end served
+  came_in doors step shares lost was now had turns end served quiet vacant is going =
       let none : had ≡ [] = subst (λ (slot : Option Guest). IsGoing shares lost slot had served) vacant going in
-      stays step shares lost was was now had turns end served quiet (λ guest some gone. not_both was guest vacant some) (subst (λ (places : List ℕ). IsGoing shares lost now places served) (sym none) (new_goes shares lost now served is))
+      stays step shares lost was was now had turns end served quiet (λ guest some gone. not_both was guest vacant some) (subst (λ (places : List ℕ). IsGoing shares lost now places served) (sym none) (new_goes doors shares lost now served is))
 
   -- ---- a turn of its own
 
@@ -1001,10 +1002,10 @@ module _ {S : Type 0} (store : Ghosts S) (before : Served S) (fresh : IsFresh be
       ] in
       may_go (Drop dropped) shares lost (get a key) (get b key) (had key) (key ≡ 0) (length (log_of shares old)) new quiet may going
       )
-  step_view Enter a b shares lost old new served clean does view =
-      still_view Enter a b shares lost old new does.1 view (λ had key quiet going. elim (does.0 key) [
-        | inl same ↦ may_go Enter shares lost (get a key) (get b key) (had key) (key ≡ 0) (length (log_of shares old)) new quiet (inl same) going
-        | inr came ↦ came_in Enter shares lost (get a key) (get b key) (had key) (key ≡ 0) (length (log_of shares old)) new quiet came.0 came.1 going
+  step_view (Enter doors) a b shares lost old new served clean does view =
+      still_view (Enter doors) a b shares lost old new does.1 view (λ had key quiet going. elim (does.0 key) [
+        | inl same ↦ may_go (Enter doors) shares lost (get a key) (get b key) (had key) (key ≡ 0) (length (log_of shares old)) new quiet (inl same) going
+        | inr came ↦ came_in doors (Enter doors) shares lost (get a key) (get b key) (had key) (key ≡ 0) (length (log_of shares old)) new quiet came.0 came.1 going
       ])
   step_view Leave a b shares lost old new served clean does view =
       still_view Leave a b shares lost old new does.1 view (λ had key quiet going. may_go Leave shares lost (get a key) (get b key) (had key) (key ≡ 0) (length (log_of shares old)) new quiet (does.0 key) going)
@@ -1040,7 +1041,7 @@ module _ {S : Type 0} (store : Ghosts S) (before : Served S) (fresh : IsFresh be
   out_on Settle began old new shares now_shares on is = tt
   out_on (Serve key) began old new shares now_shares on is = tt
   out_on (Drop key) began old new shares now_shares on is = tt
-  out_on Enter began old new shares now_shares on is = tt
+  out_on (Enter doors) began old new shares now_shares on is = tt
   out_on Leave began old new shares now_shares on is = tt
 
   out_new : (step : Step) (a b : Slab Guest) (old new : Served S) (shares : Bool) → shares ≡ false → Does store step a b old new → IsOut step old shares new
@@ -1053,7 +1054,7 @@ module _ {S : Type 0} (store : Ghosts S) (before : Served S) (fresh : IsFresh be
   out_new Settle a b old new shares is does = tt
   out_new (Serve key) a b old new shares is does = tt
   out_new (Drop key) a b old new shares is does = tt
-  out_new Enter a b old new shares is does = tt
+  out_new (Enter doors) a b old new shares is does = tt
   out_new Leave a b old new shares is does = tt
 
   -- whoever waited in that step waits for a round that is not kept
@@ -1072,7 +1073,7 @@ module _ {S : Type 0} (store : Ghosts S) (before : Served S) (fresh : IsFresh be
   unheard_new Keep key guest a b old new shares lost does view not_shared is_lost is none = absurd (not_both (get b key) guest none (does.0 key ∙ is))
   unheard_new Begin key guest a b old new shares lost does view not_shared is_lost is none = absurd (not_both (get b key) guest none (does.0 key ∙ is))
   unheard_new Settle key guest a b old new shares lost does view not_shared is_lost is none = absurd (not_both (get b key) guest none (does.0 key ∙ is))
-  unheard_new Enter key guest a b old new shares lost does view not_shared is_lost is none =
+  unheard_new (Enter doors) key guest a b old new shares lost does view not_shared is_lost is none =
       elim (does.0 key) [
         | inl same ↦ absurd (not_both (get b key) guest none (same ∙ is))
         | inr came ↦ absurd (not_both (get a key) guest came.0 is)
@@ -1102,7 +1103,7 @@ module _ {S : Type 0} (store : Ghosts S) (before : Served S) (fresh : IsFresh be
   left_out Settle began shares now is = tt
   left_out (Serve key) began shares now is = tt
   left_out (Drop key) began shares now is = tt
-  left_out Enter began shares now is = tt
+  left_out (Enter doors) began shares now is = tt
   left_out Leave began shares now is = tt
 
   loses_round : (began now after : Served S) → after ≡ now → IsUnheard began false now → ((shares_of began ≡ false) × IsTrue (is_lost_of began)) ⊎ (IsTrue (shares_of began) × IsLeftOut began after)
@@ -1352,7 +1353,7 @@ module _ {S : Type 0} (store : Ghosts S) (before : Served S) (fresh : IsFresh be
   tells_in_step Begin a b old new served clean does = tt
   tells_in_step Settle a b old new served clean does = tt
   tells_in_step (Drop dropped) a b old new served clean does = tt
-  tells_in_step Enter a b old new served clean does = tt
+  tells_in_step (Enter doors) a b old new served clean does = tt
   tells_in_step Leave a b old new served clean does = tt
 
   -- ---- who asked what
@@ -1504,7 +1505,7 @@ module _ {S : Type 0} (store : Ghosts S) where
         | inl same ↦ sym same
         | inr differs ↦ absurd (is_none_and_some (get b key) guest is.1 (does.1 key differs ∙ is.0))
       ]
-  may_end key guest Enter a b old new does is =
+  may_end key guest (Enter doors) a b old new does is =
       elim (does.0 key) [
         | inl same ↦ is_none_and_some (get b key) guest is.1 (same ∙ is.0)
         | inr came ↦ is_none_and_some (get a key) guest came.0 is.0
@@ -1537,7 +1538,7 @@ module _ {S : Type 0} (store : Ghosts S) where
   somebody {guests} {before} {after} goes fresh last (Before n key) guest is = says_there (TurnsAnother store after key guest) n goes.steps goes.first guests before after goes.does is.0 is.1
 
   pub from_end_to_end : CrashesFindLastCommit store → FromEndToEnd store
-  from_end_to_end lasts guests before after goes fresh =
+  from_end_to_end lasts doors guests before after goes enter fresh =
       let last : Held S = store_of after in
       let served = served_by store goes.steps goes.first guests before after goes.does fresh.alone fresh.none_asked in
       let course : Trail store guests before after = trail_of goes in
@@ -1549,6 +1550,8 @@ module _ {S : Type 0} (store : Ghosts S) where
       let v = views.1 false view.0 view.1 in (
         record {
           course = goes;
+          enter = enter;
+          by_doors = visits_by store doors goes enter;
           asker = v.shared.asker;
           places = v.places;
           all_asked = λ place low. v.shared.all place (subst (λ (it : Served S). place < length (journal_of it)) is low);

@@ -17,8 +17,10 @@ use Rattle.serve_peers.specs.LinePeers.{lines_of}
 use Rattle.serve_peers.specs.Lines.{output_of}
 use Rattle.serve_peers.specs.ServedLives.{told_to}
 use Rattle.serve_peers.specs.declared.served.Served.{Served}
+use Rattle.serve_sockets.specs.Doors.{IsByDoor}
 use Rattle.serve_sockets.specs.Guests.{asked_in, peer_of}
-use Rattle.serve_sockets.specs.Halls.{Ask, Serve}
+use Rattle.serve_sockets.specs.Halls.{AllEnterBy, Ask, Serve}
+use Rattle.serve_sockets.specs.declared.doors.Speech.{Speech}
 use Rattle.serve_sockets.specs.declared.guest.Guest.{Guest}
 use Rattle.serve_sockets.specs.declared.guest.Peer.{Peer}
 use Rattle.serve_sockets.specs.declared.guest.Peer.TheVariants.{Http, Last, Lines, Pages}
@@ -110,15 +112,20 @@ module _ {S : Type 0} (store : Ghosts S) where
 
   -- ---- from one end to the other
 
-  -- What stands at each place of the journal was asked in one visit, and in no other. It was the
-  -- visit of somebody who was there, and who was told what stands at the places of that visit, in
+  -- Whoever comes in does so by one of these doors, and speaks what that is for, or is told one last
+  -- thing. What stands at each place of the journal was asked in one visit, and in no other. It was
+  -- the visit of somebody who was there, and who was told what stands at the places of that visit, in
   -- answer to what came. So is whoever is there and waits for no round. So was whoever was let go,
   -- but for who waited to hear of a round that is not in the journal. In each turn a question is
   -- answered by the journal as it stands then. Nobody is let go but in a step that may end its
   -- visit. Where no round is under way the tables are what the journal leaves, as one list of
   -- events. A crash finds what the journal has. Whether pages take a file without a password stays.
-  pub record IsWhole (guests : Slab Guest) (before after : Served S) : Type 0 where
+  pub record IsWhole (doors : List Speech) (guests : Slab Guest) (before after : Served S)
+      : Type 0 where
     pub course : Course store guests before after
+    pub enter : AllEnterBy doors course.steps
+    pub by_doors : (visit : Visit) (guest : Guest) → IsVisit store course visit guest
+        → IsByDoor doors guest
     pub asker : (place : ℕ) → Visit
     pub places : Visit → List ℕ
     pub all_asked : (place : ℕ) → place < length (journal_of after)
@@ -149,16 +156,18 @@ module _ {S : Type 0} (store : Ghosts S) where
   -- A hall served over these tables, which held what they may before it. It began with nobody in
   -- it, and nothing was asked before. All that it did is one whole, and the tables are what that left.
   pub record ServesWhole (old new : Held S) : Type 0 where
+    pub doors : List Speech
     pub guests : Slab Guest
     pub before : Served S
     pub after : Served S
     pub over : store_of before ≡ old
     pub fresh : IsFresh before
-    pub whole : IsWhole guests before after
+    pub whole : IsWhole doors guests before after
     pub leaves : store_of after ≡ new
 
-  -- whatever went on in a hall that began with nobody in it, there is a whole of just those steps
+  -- whatever went on behind these doors in a hall that began with nobody in it, there is a whole of
+  -- just those steps
   abbrev pub FromEndToEnd : Type 0
-  FromEndToEnd = (guests : Slab Guest) (before after : Served S)
-      → (course : Course store guests before after) → IsFresh before
-      → (whole : IsWhole guests before after) × (whole.course ≡ course)
+  FromEndToEnd = (doors : List Speech) (guests : Slab Guest) (before after : Served S)
+      → (course : Course store guests before after) → AllEnterBy doors course.steps
+      → IsFresh before → (whole : IsWhole doors guests before after) × (whole.course ≡ course)

@@ -1,5 +1,5 @@
 -- A turn of a peer that came in by a door (all this project's own).
-use Rattle.std.specs.Prelude.{◌≡◌, ◌≢◌, ◌⊎◌, ◌+◌, ◌<◌, ℕ, Bool, true, false, List, [], ◌∷◌, ◌++◌, Option, None, Some, IsFalse, is_some}
+use Rattle.std.specs.Prelude.{◌≡◌, ◌≢◌, ◌⊎◌, ◌+◌, ◌<◌, ℕ, Bool, true, false, List, [], ◌∷◌, ◌++◌, slice_get, Option, None, Some, IsFalse, is_some}
 use Rattle.http_server.specs.Connection.{history}
 use Rattle.http_server.specs.History.{new_history}
 use Rattle.slab.specs.Slab.{Slab, get}
@@ -53,10 +53,10 @@ CameBy speech_is.Pages (Pages peer) = history (http.connection_of peer) ≡ new_
 CameBy (speech_is.Lines side) (Lines peer) = IsNewOf side (lines.lines_of peer)
 CameBy _ _ = ⊥
 
--- it came in by a door, and had no turn yet
-abbrev pub IsNew : Guest → Type 0
-IsNew guest = (speech : Speech) × CameBy speech (peer_of guest) × (turns_of guest ≡ [])
-    × (asked_in guest ≡ [])
+-- it came in by one of these doors, each given by what is spoken there, and had no turn yet
+abbrev pub IsNew : (doors : List Speech) → Guest → Type 0
+IsNew doors guest = (speech : Speech) × CameBy speech (peer_of guest) × (turns_of guest ≡ [])
+    × (asked_in guest ≡ []) × (slice_get doors guest.door ≡ Some speech)
 
 -- each whole request that came has its call, or no line is whole where nothing waits to go, or what
 -- goes last does

@@ -17,6 +17,7 @@ use Rattle.serve_peers.specs.declared.step.Next.TheVariants as next_is
 use Rattle.serve_peers.specs.declared.step.Turn.{Turn}
 use Rattle.serve_sockets.specs.Guests.{IsNew, NobodyWaits, Turns, is_waiting}
 use Rattle.serve_sockets.specs.declared.clock.Reading.{Reading}
+use Rattle.serve_sockets.specs.declared.doors.Speech.{Speech}
 use Rattle.serve_sockets.specs.declared.guest.Guest.{Guest}
 use Rattle.serve_sockets.specs.declared.hall.Hall.{Hall}
 use Rattle.serve_sockets.specs.declared.hall.TheConstants.{MOST_DOORS}
@@ -41,6 +42,10 @@ keys_told events = filter_map key_told events
 abbrev pub told_by : Hall → List ℕ
 told_by hall = keys_told (items hall.events)
 
+-- what is spoken at each of its doors
+abbrev pub doors_of : Hall → List Speech
+doors_of hall = hall.doors.items
+
 -- nobody is there
 abbrev pub IsEmpty : Hall → Type 0
 IsEmpty hall = (key : ℕ) → get (guests_of hall) key ≡ None
@@ -57,10 +62,10 @@ MayGo was now = (now ≡ was) ⊎ (now ≡ None)
 abbrev pub OnlyLeave : (old new : Slab Guest) → Type 0
 OnlyLeave old new = (key : ℕ) → MayGo (get old key) (get new key)
 
--- every peer is as it was, and where nobody was somebody may have come in
-abbrev pub OnlyEnter : (old new : Slab Guest) → Type 0
-OnlyEnter old new = (key : ℕ) → (get new key ≡ get old key)
-    ⊎ ((get old key ≡ None) × IsSomeAnd (get new key) IsNew)
+-- every peer is as it was, and where nobody was somebody may have come in by one of these doors
+abbrev pub OnlyEnter : (doors : List Speech) (old new : Slab Guest) → Type 0
+OnlyEnter doors old new = (key : ℕ) → (get new key ≡ get old key)
+    ⊎ ((get old key ≡ None) × IsSomeAnd (get new key) (IsNew doors))
 
 -- a turn of which this came ends the connection, or the system may refuse to tell of it again
 abbrev pub MayLeave : Next → Type 0
@@ -111,7 +116,7 @@ pub data Step : Type 0 where
   Settle : Step
   Serve : (key : ℕ) → Step
   Drop : (key : ℕ) → Step
-  Enter : Step
+  Enter : (doors : List Speech) → Step
   Leave : Step
 
 -- The peer of the key is served before anything else becomes of it in these steps. A turn in a round,
@@ -124,7 +129,7 @@ IsServedFirst key (Ask other ∷ steps) = IsServedFirst key steps
 IsServedFirst key (Settle ∷ steps) = IsServedFirst key steps
 IsServedFirst key (Serve other ∷ steps) = (other ≡ key) ⊎ IsServedFirst key steps
 IsServedFirst key (Drop other ∷ steps) = (other ≢ key) × IsServedFirst key steps
-IsServedFirst key (Enter ∷ steps) = ⊥
+IsServedFirst key (Enter doors ∷ steps) = ⊥
 IsServedFirst key (Leave ∷ steps) = ⊥
 
 -- the same, or nothing becomes of it
@@ -136,7 +141,7 @@ IsSpared key (Ask other ∷ steps) = IsSpared key steps
 IsSpared key (Settle ∷ steps) = IsSpared key steps
 IsSpared key (Serve other ∷ steps) = (other ≡ key) ⊎ IsSpared key steps
 IsSpared key (Drop other ∷ steps) = (other ≢ key) × IsSpared key steps
-IsSpared key (Enter ∷ steps) = ⊥
+IsSpared key (Enter doors ∷ steps) = ⊥
 IsSpared key (Leave ∷ steps) = ⊥
 
 -- peers are served, or let go, and nothing else goes on
@@ -145,6 +150,16 @@ OnlyServe [] = ⊤
 OnlyServe (Serve key ∷ steps) = OnlyServe steps
 OnlyServe (Drop key ∷ steps) = OnlyServe steps
 OnlyServe (_ ∷ steps) = ⊥
+
+-- who comes in does so by one of these doors
+abbrev pub EntersBy : (doors : List Speech) (step : Step) → Type 0
+EntersBy doors (Enter these) = these ≡ doors
+EntersBy doors _ = ⊤
+
+-- the same in each of these steps
+abbrev pub AllEnterBy : (doors : List Speech) (steps : List Step) → Type 0
+AllEnterBy doors [] = ⊤
+AllEnterBy doors (step ∷ steps) = EntersBy doors step × AllEnterBy doors steps
 
 module _ {S : Type 0} (store : Ghosts S) where
   -- a round begins, or can't, or one is under way
@@ -171,7 +186,7 @@ module _ {S : Type 0} (store : Ghosts S) where
       × Serves store (get old key) (get new key) before after × AreOthersKept key old new
   Does (Drop key) old new before after =
       MayGo (get old key) (get new key) × AreOthersKept key old new × (after ≡ before)
-  Does Enter old new before after = OnlyEnter old new × (after ≡ before)
+  Does (Enter doors) old new before after = OnlyEnter doors old new × (after ≡ before)
   Does Leave old new before after = OnlyLeave old new × (after ≡ before)
 
   abbrev pub DoesAll : (steps : List Step) (old new : Slab Guest) (before after : Served S)
@@ -184,18 +199,19 @@ module _ {S : Type 0} (store : Ghosts S) where
   abbrev pub StaysAlone : (before after : Served S) → Type 0
   StaysAlone before after = shares_of before ≡ false → shares_of after ≡ false
 
-  -- all that became of the peers and of what is served is such steps
-  abbrev pub GoesOn : (old new : Slab Guest) (before after : Served S) → Type 0
-  GoesOn old new before after = (steps : List Step) × DoesAll steps old new before after
-      × StaysAlone before after
-
-  -- all that became of the peers and of what is served is such steps, and each peer of these keys
-  -- is served before anything else becomes of it
-  abbrev pub ServesThose : (keys : List ℕ) (old new : Slab Guest) (before after : Served S)
+  -- all that became of the peers and of what is served is such steps, in which who comes in does so
+  -- by one of these doors
+  abbrev pub GoesOn : (doors : List Speech) (old new : Slab Guest) (before after : Served S)
       → Type 0
-  ServesThose keys old new before after = (steps : List Step)
+  GoesOn doors old new before after = (steps : List Step) × DoesAll steps old new before after
+      × StaysAlone before after × AllEnterBy doors steps
+
+  -- the same, and each peer of these keys is served before anything else becomes of it
+  abbrev pub ServesThose : (doors : List Speech) (keys : List ℕ) (old new : Slab Guest)
+      (before after : Served S) → Type 0
+  ServesThose doors keys old new before after = (steps : List Step)
       × DoesAll steps old new before after × StaysAlone before after
-      × All (λ key. IsServedFirst key steps) keys
+      × All (λ key. IsServedFirst key steps) keys × AllEnterBy doors steps
 
   -- ---- the parts of a pass
 

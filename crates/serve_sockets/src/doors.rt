@@ -1,8 +1,8 @@
 //! What a hall knows of each door: what is spoken there, how many peers may be in, how many are;
 //! and how peers are let in.
 
-ghost use Rattle.std.specs.Prelude.{◌≡◌, ◌≤◌, IfSome, map, sum};
-ghost use Rattle.serve_sockets.specs.Doors.{kind_of, most_of};
+ghost use Rattle.std.specs.Prelude.{◌≡◌, ◌≤◌, IfOk, IfSome, List, Some, map, slice_get, sum};
+ghost use Rattle.serve_sockets.specs.Doors.{kind_of, most_of, speech_of};
 ghost use Rattle.serve_sockets.specs.Halls.{OnlyEnter};
 
 use crate::door::Door;
@@ -10,7 +10,7 @@ use crate::guest::{Guest, Peer};
 use crate::hall::Peers;
 use crate::stream::Stream;
 use serve_peers::{HttpPeer, LinePeer, Side};
-use std::alloc::Global;
+use std::alloc::{AllocError, Global};
 use std::hash::RandomState;
 use std::io::ErrorKind;
 
@@ -138,6 +138,17 @@ pub(crate) fn most_guests(doors: &[Entrance]) -> Option<usize>
     Some(most)
 }
 
+/// What is spoken at each of the doors.
+pub(crate) fn speeches_at(alloc: Global, doors: &[Entrance]) -> Result<Vec<Speech>, AllocError>
+    ensures { IfOk result (λ speeches. speeches.items ≡ map speech_of doors.now) }
+{
+    let mut speeches = Vec::with_capacity(alloc, doors.len())?;
+    for entrance in doors {
+        speeches.push(entrance.kind.speech)?;
+    }
+    Ok(speeches)
+}
+
 impl Peers {
     /// Notes that somebody may wait at the door in this place, as the system told.
     pub(crate) fn note_waiting(&mut self, place: usize)
@@ -148,22 +159,26 @@ impl Peers {
         }
     }
 
-    /// Lets in who waits at the doors, unless nothing more is received.
-    pub(crate) fn admit_all(&mut self, ticks: u64)
-        ensures { OnlyEnter self.old.guests self.new.guests }
+    /// Lets in who waits at the doors, unless nothing more is received. `doors`: what is spoken at
+    /// each.
+    pub(crate) fn admit_all(&mut self, doors: &[Speech], ticks: u64)
+        ensures { OnlyEnter doors.now self.old.guests self.new.guests }
     {
         if !self.receives {
             return;
         }
-        for place in 0..self.entrances.len() {
-            self.admit(place, ticks);
+        for place in 0..doors.len() {
+            self.admit(doors, place, ticks);
         }
     }
 
     /// Lets in who waits at a door, while it has room.
-    fn admit(&mut self, place: usize, ticks: u64)
-        ensures { OnlyEnter self.old.guests self.new.guests }
+    fn admit(&mut self, doors: &[Speech], place: usize, ticks: u64)
+        ensures { OnlyEnter doors.now self.old.guests self.new.guests }
     {
+        let Some(speech) = doors.get(place).copied() else {
+            return;
+        };
         for _ in 0..self.most_guests {
             let Some(entrance) = self.entrances.get_mut(place) else {
                 return;
@@ -173,7 +188,6 @@ impl Peers {
             }
             match entrance.door.accept() {
                 Ok(stream) => {
-                    let speech = entrance.kind.speech;
                     self.take_in(stream, speech, place, ticks);
                 }
                 Err(error) => {
@@ -188,7 +202,8 @@ impl Peers {
     /// Takes in a peer who came by the door in this place, or drops it where the system or the
     /// memory has no room.
     fn take_in(&mut self, stream: Stream, speech: Speech, place: usize, ticks: u64)
-        ensures { OnlyEnter self.old.guests self.new.guests }
+        ensures { (doors : List Speech) → slice_get doors place ≡ Some speech
+            → OnlyEnter doors self.old.guests self.new.guests }
     {
         let peer = speech.peer(self.alloc, self.keys, ticks);
         let mut guest = Guest::new(stream, peer, place);

@@ -99,6 +99,7 @@ impl Guest {
         ensures peer { peer_of result ≡ peer }
         ensures turns { turns_of result ≡ [] }
         ensures asked { asked_in result ≡ [] }
+        ensures door { result.door ≡ door }
     {
         Guest {
             stream,

@@ -7,12 +7,12 @@ ghost use Rattle.mio.specs.Events.{items};
 ghost use Rattle.slab.specs.Slab.{SameValues, get};
 ghost use Rattle.serve_peers.specs.Journals.{open_of, shares_of};
 ghost use Rattle.serve_peers.specs.Rounds.{Follows};
-ghost use Rattle.serve_sockets.specs.Doors.{most_of};
+ghost use Rattle.serve_sockets.specs.Doors.{most_of, speech_of};
 ghost use Rattle.serve_sockets.specs.Guests.{NobodyWaits};
 
 use crate::clock::{Reading, moment, ticks};
 use crate::deadlines::TICK;
-use crate::doors::{Entrance, MOST_GUESTS, most_guests};
+use crate::doors::{Entrance, MOST_GUESTS, Speech, most_guests, speeches_at};
 use crate::guest::Guest;
 use crate::pace::Pace;
 use crate::stock::Stock;
@@ -44,6 +44,8 @@ pub(crate) const MOST_DOORS: usize = 64;
 pub struct Hall {
     peers: Peers,
     events: Events,
+    /// What is spoken at each door.
+    doors: Vec<Speech>,
     /// Whether lines wait that the file of the log has not taken.
     log_lags: bool,
     // Whoever asked in a round heard of it, or is gone.
@@ -97,7 +99,7 @@ impl Drop for Peers {
 
 impl Hall {
     ghost use Rattle.serve_sockets.specs.EndToEnd.{IsFresh, IsWhole};
-    ghost use Rattle.serve_sockets.specs.Halls.{GoesOn, IsEmpty, ServesThose, guests_of, told_by};
+    ghost use Rattle.serve_sockets.specs.Halls.{GoesOn, IsEmpty, ServesThose, doors_of, guests_of, told_by};
 
     /// A hall behind these doors, with nobody in it. `keys` are secret, since peers choose the
     /// names of fields. `InvalidInput` where there are more doors than a hall has, or they let in
@@ -110,6 +112,7 @@ impl Hall {
         ensures empty { IfOk result IsEmpty }
         ensures doors { OnOk result (vec_len doors ≤ MOST_DOORS) }
         ensures guests { OnOk result (sum (map most_of doors.items) ≤ MOST_GUESTS) }
+        ensures speeches { IfOk result (λ hall. doors_of hall ≡ map speech_of doors.items) }
     {
         if doors.len() > MOST_DOORS {
             return Err(too_many("a hall has 64 doors at most"));
@@ -127,9 +130,11 @@ impl Hall {
         most_guests: usize,
         keys: RandomState,
     ) -> io::Result<Hall>
-        ensures { IfOk result IsEmpty }
+        ensures empty { IfOk result IsEmpty }
+        ensures speeches { IfOk result (λ hall. doors_of hall ≡ map speech_of doors.items) }
     {
         let alloc = rt.alloc();
+        let speeches = speeches_at(alloc, doors.as_slice())?;
         let poll = Poll::new(rt)?;
         for (place, entrance) in doors.iter_mut().enumerate() {
             poll.registry()
@@ -156,6 +161,7 @@ impl Hall {
         Ok(Hall {
             peers,
             events,
+            doors: speeches,
             log_lags: false,
         })
     }
@@ -168,12 +174,14 @@ impl Hall {
         K: CopyMaker<Rows = Connection<T>>,
         R: Clock + Files<File = File> + Eprint,
     >(&mut self, rt: &R, served: &mut Served<S>, copies: &mut Copies<T, K>) -> io::Result<()>
-        ensures goes_on { GoesOn S.Store (guests_of self.old) (guests_of self.new)
-            served.old served.new }
+        ensures goes_on { GoesOn S.Store (doors_of self.old)
+            (guests_of self.old) (guests_of self.new) served.old served.new }
         ensures follows { shares_of served.old ≡ false → open_of served.old ≡ []
             → Follows S.Store served.old served.new }
         ensures whole { IsEmpty self.old → IsFresh served.old
-            → IsWhole S.Store (guests_of self.new) served.old served.new }
+            → IsWhole S.Store (doors_of self.old) (guests_of self.new)
+            served.old served.new }
+        ensures doors { doors_of self.new ≡ doors_of self.old }
     {
         for _ in 0..u64::MAX {
             if served.has_to_end() {
@@ -192,10 +200,11 @@ impl Hall {
         K: CopyMaker<Rows = Connection<T>>,
         R: Clock + Files<File = File> + Eprint,
     >(&mut self, rt: &R, served: &mut Served<S>, copies: &mut Copies<T, K>) -> io::Result<()>
-        ensures goes_on { GoesOn S.Store (guests_of self.old) (guests_of self.new)
-            served.old served.new }
+        ensures goes_on { GoesOn S.Store (doors_of self.old)
+            (guests_of self.old) (guests_of self.new) served.old served.new }
         ensures follows { shares_of served.old ≡ false → open_of served.old ≡ []
             → Follows S.Store served.old served.new }
+        ensures doors { doors_of self.new ≡ doors_of self.old }
     {
         self.peers.receives = false;
         let last = self.peers.ticks(rt)?.saturating_add(LAST_TICKS);
@@ -222,12 +231,13 @@ impl Hall {
         K: CopyMaker<Rows = Connection<T>>,
         R: Clock + Files<File = File> + Eprint,
     >(&mut self, rt: &R, served: &mut Served<S>, copies: &mut Copies<T, K>) -> io::Result<()>
-        ensures goes_on { GoesOn S.Store (guests_of self.old) (guests_of self.new)
-            served.old served.new }
+        ensures goes_on { GoesOn S.Store (doors_of self.old)
+            (guests_of self.old) (guests_of self.new) served.old served.new }
         ensures follows { shares_of served.old ≡ false → open_of served.old ≡ []
             → Follows S.Store served.old served.new }
-        ensures serves { ServesThose S.Store (told_by self.new)
+        ensures serves { ServesThose S.Store (doors_of self.old) (told_by self.new)
             (guests_of self.old) (guests_of self.new) served.old served.new }
+        ensures doors { doors_of self.new ≡ doors_of self.old }
     {
         let timeout = self.peers.timeout(served.gathers());
         self.peers.poll.poll(&mut self.events, timeout)?;
@@ -242,18 +252,19 @@ impl Hall {
     /// Has those that the system told of ask in a round, and then gives each its turn. Then it lets
     /// in who waits, has those go on who were held back, and drops who is late.
     fn serve_told<S: Alter>(&mut self, clock: &impl Clock, served: &mut Served<S>) -> io::Result<()>
-        ensures goes_on { GoesOn S.Store (guests_of self.old) (guests_of self.new)
-            served.old served.new }
+        ensures goes_on { GoesOn S.Store (doors_of self.old)
+            (guests_of self.old) (guests_of self.new) served.old served.new }
         ensures follows { shares_of served.old ≡ false → open_of served.old ≡ []
             → Follows S.Store served.old served.new }
-        ensures serves { ServesThose S.Store (told_by self.new)
+        ensures serves { ServesThose S.Store (doors_of self.old) (told_by self.new)
             (guests_of self.old) (guests_of self.new) served.old served.new }
+        ensures doors { doors_of self.new ≡ doors_of self.old }
     {
         self.peers.choose_browser(&self.events);
         self.peers.share(&self.events, clock, served);
         self.peers.serve_all(&self.events, clock, served);
         let ticks = self.peers.ticks(clock)?;
-        self.peers.admit_all(ticks);
+        self.peers.admit_all(self.doors.as_slice(), ticks);
         self.peers.resume_held_back();
         self.peers.drop_late(ticks);
         Ok(())

@@ -14,10 +14,11 @@ pub fn always_hear<S: Alter>()
 {}
 
 /// Whatever goes on in a hall that began with nobody in it, over rooms where nothing was asked:
-/// what goes out on each connection answers, in order, what came on it. Each answer stands in the
-/// journal, and is what the account's own machine gives. Each entry of the journal was asked by one
-/// who is there or was, and by nobody else. A question is answered by the journal as it stands in
-/// its turn. The tables are what the journal leaves, and a crash finds that.
+/// whoever comes in speaks what its door is for. What goes out on each connection answers, in order,
+/// what came on it. Each answer stands in the journal, and is what the account's own machine gives.
+/// Each entry of the journal was asked by one who is there or was, and by nobody else. A question is
+/// answered by the journal as it stands in its turn. The tables are what the journal leaves, and a
+/// crash finds that.
 pub fn from_end_to_end<S: Alter>()
     ensures { FromEndToEnd S.Store }
 {}
