@@ -1,9 +1,11 @@
 //! The command `serve`: one process for clients over HTTP, browsers, stations and operators. Here
 //! it is set up: its database, log, kept space and doors; `serve_sockets` serves.
-ghost use Rattle.std.specs.Prelude.{◌≡◌, ◌⊎◌, IfOk, IsErr};
+ghost use Rattle.std.specs.Prelude.{◌≡◌, ◌⊎◌, IfOk, IsErr, map};
 ghost use Rattle.serve_peers.specs.Journals.{store_of};
-ghost use Rattle.serve_sockets.specs.EndToEnd.{IsFresh, IsWhole, ServesWhole};
-ghost use Rattle.serve_sockets.specs.Halls.{IsEmpty, guests_of};
+ghost use Rattle.serve_sockets.specs.Doors.{speech_of};
+ghost use Rattle.serve_sockets.specs.EndToEnd.{IsFresh, IsWhole};
+ghost use Rattle.serve_sockets.specs.Halls.{IsEmpty, doors_of, guests_of};
+ghost use Rattle.cli_program.specs.SpokenDoors.{AreSpoken, IsSpokenAt, ServesAsked};
 
 use crate::database::serve_on_database;
 use crate::serving_command::ServingCommand;
@@ -54,15 +56,16 @@ impl Drop for ServeCommand<'_> {
 
 impl ServingCommand for ServeCommand<'_> {
     /// Serves at the doors, and hands back the connection to the database, which is still open. All
-    /// that was served is one whole, from what came on each connection to what a crash finds. Where
-    /// the command can't begin nothing was served.
+    /// that was served is one whole, from what came on each connection to what a crash finds, and at
+    /// each door is spoken what its word names it for. Where the command can't begin nothing was
+    /// served.
     fn serve<S: Alter + Drop, W: Write>(
         &mut self,
         rt: &HostRuntime,
         store: Store<S>,
         output: &mut W,
     ) -> (Connection<S>, Result<(), Fault>)
-        ensures whole { ServesWhole S.Store store result.0
+        ensures whole { ServesAsked S.Store self.old.asked.now store result.0
             ⊎ (IsErr result.1 × (result.0 ≡ store)) }
     {
         let mut served = Served::new(rt.alloc(), store, self.moment);
@@ -81,7 +84,7 @@ fn serve_at_doors<S: Alter, W: Write>(
     output: &mut W,
 ) -> Result<(), Fault>
     requires fresh { IsFresh served.old }
-    ensures whole { ServesWhole S.Store (store_of served.old) (store_of served.new)
+    ensures whole { ServesAsked S.Store asked.now (store_of served.old) (store_of served.new)
         ⊎ (IsErr result × (store_of served.new ≡ store_of served.old)) }
 {
     set_up(rt, served, asked)?;
@@ -113,7 +116,7 @@ fn set_up<S: Alter>(
 /// Runs the hall until an operator ends it, with backups as files of this machine.
 fn run_hall<S: Alter>(rt: &HostRuntime, hall: &mut Hall, served: &mut Served<S>) -> io::Result<()>
     ensures whole { IsEmpty hall.old → IsFresh served.old
-        → IsWhole S.Store (guests_of hall.new) served.old served.new }
+        → IsWhole S.Store (doors_of hall.old) (guests_of hall.new) served.old served.new }
 {
     let mut copies = Copies::new(CopyFiles::new(rt));
     hall.run(rt, served, &mut copies)
@@ -132,7 +135,8 @@ fn spare_for(rt: &HostRuntime, database: &str) -> io::Result<Spare> {
 /// Opens the doors that the command asks for, prints their addresses, and makes the hall behind
 /// them.
 fn open<W: Write>(rt: &HostRuntime, asked: &Serving<'_>, output: &mut W) -> io::Result<Hall>
-    ensures { IfOk result IsEmpty }
+    ensures empty { IfOk result IsEmpty }
+    ensures spoken { IfOk result (λ hall. AreSpoken asked.now.doors.items (doors_of hall)) }
 {
     let doors = doors_at(rt, asked.doors.as_slice())?;
     tell(output, asked.doors.as_slice(), doors.as_slice())?;
@@ -140,7 +144,9 @@ fn open<W: Write>(rt: &HostRuntime, asked: &Serving<'_>, output: &mut W) -> io::
 }
 
 /// Opens each door that the command line names.
-fn doors_at(rt: &HostRuntime, asked: &[ServedDoor<'_>]) -> io::Result<Vec<Entrance>> {
+fn doors_at(rt: &HostRuntime, asked: &[ServedDoor<'_>]) -> io::Result<Vec<Entrance>>
+    ensures { IfOk result (λ doors. AreSpoken asked.now (map speech_of doors.items)) }
+{
     let mut doors = Vec::with_capacity(rt.alloc(), asked.len())?;
     for door in asked {
         let kind = kind_of(rt, door)?;
@@ -158,7 +164,9 @@ fn door_at(rt: &HostRuntime, address: Address<'_>) -> io::Result<Door> {
 }
 
 /// What a hall has to know of a door that the command line names: who comes in there, and how many.
-fn kind_of(rt: &HostRuntime, door: &ServedDoor<'_>) -> io::Result<Kind> {
+fn kind_of(rt: &HostRuntime, door: &ServedDoor<'_>) -> io::Result<Kind>
+    ensures { IfOk result (λ kind. IsSpokenAt door.now kind.speech) }
+{
     match door.visitors {
         Visitors::Clients => Ok(Kind::CLIENTS),
         Visitors::Pages => Ok(Kind::PAGES),
