@@ -18,7 +18,7 @@ class Guesses:
     def wait(self, account: str) -> int:
         """The seconds that the account has still to wait."""
         _, until = self.state.guesses.get(account, (0, 0))
-        return max(0, min(MOST_WAIT, round(until - time.time())))
+        return 0 if is_ahead(until) else max(0, min(MOST_WAIT, round(until - time.time())))
 
     def wait_here(self) -> int:
         """The seconds that everybody has still to wait."""
@@ -26,7 +26,7 @@ class Guesses:
 
     def level(self) -> float:
         level, since = self.state.guesses.get(HERE, (0, 0))
-        return max(0, level - max(0, time.time() - since) / EACH)
+        return 0 if is_ahead(since) else max(0, level - max(0, time.time() - since) / EACH)
 
     def wrong(self, account: str) -> None:
         now, guesses = time.time(), self.state.guesses
@@ -54,3 +54,8 @@ class Guesses:
                     self.state.guesses[name] = kept
             self.state.save_if_possible()
         return take_back
+
+
+def is_ahead(moment: float) -> bool:
+    """Whether it was kept by a clock that was ahead: nobody waits for years."""
+    return moment > time.time() + FORGOTTEN

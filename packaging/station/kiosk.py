@@ -151,8 +151,8 @@ class Kiosk:
                 return None
         if price is None:
             return Plan(self.name, impressions)
-        most = price.units * (impressions or row.impressions) * row.copies if row.state == 'held' else row.reserved
-        return Plan(price.device, impressions, price.units, most, prices.said(price))
+        cost = price.units * (impressions or row.impressions) * row.copies if row.state == 'held' else row.reserved
+        return Plan(price.device, impressions, price.units, cost, prices.said(price))
 
     def wanted(self, row):
         """What the documents of a job ask for, as far as its name tells it, and what else its price depends on."""
@@ -179,9 +179,11 @@ class Kiosk:
         for row, plan in plans:
             count = row.impressions or plan.impressions
             copies = f', {row.copies} copies' if row.copies > 1 else ''
+            # A job that is released has the price that it was released for.
+            rate = plan.cost // (count * row.copies) if count else plan.units
             self.screen.say(f"Job {row.job}, {row.name}: {pages(count) if count else 'pages unknown'}{copies}, {plan.what}, "
-                            f'{units(plan.units)} a page: {units(plan.most)}.')
-        line = self.screen.ask(f'Print for {units(sum(plan.most for _, plan in plans))}? (yes): ', THINKS) or ''
+                            f'{units(rate)} a page: {units(plan.cost)}.')
+        line = self.screen.ask(f'Print for {units(sum(plan.cost for _, plan in plans))}? (yes): ', THINKS) or ''
         if line.strip().lower() == 'yes':
             return plans
         self.screen.say('Nothing is printed.')

@@ -20,11 +20,11 @@ LATER = ('failed', 'not-your-device')
 
 class Plan(NamedTuple):
     """How a job is to be printed: as which device of the server, the impressions that somebody told who was asked for them, and where
-    there are prices the units of an impression, the units that may be reserved, and what has the price."""
+    there are prices the units of an impression, those that are reserved for the job, and what has the price."""
     device: str
     impressions: int | None = None
     units: int | None = None
-    most: int | None = None
+    cost: int | None = None
     what: str = ''
 
 
@@ -87,7 +87,7 @@ class Printing:
         self.state.job = {'account': account, 'job': row.job, 'released': is_released, 'copies': row.copies,
                           'impressions': plan.impressions or row.impressions, 'of': None, 'documents': [], 'end': None,
                           'asked': row.state == 'processing', 'has_pin': row.has_password, 'device': plan.device, 'units': plan.units,
-                          'most': plan.most}
+                          'cost': plan.cost}
         try:
             self.state.save()
             word = None if is_released else self.ask_release(account, row.job, password, plan)
@@ -171,8 +171,8 @@ class Printing:
         try:
             documents = self.fetch(job)
         except Refused as refused:
-            self.screen.say(f'{number} is not printed here ({refused.word}).' if refused.word != 'dearer' else
-                            f'The print server takes more for {number} than was shown. It is left alone. Tell the print room.')
+            self.screen.say(f'{number} is not printed here ({refused.word}).' if refused.word != 'another-price' else
+                            f'The print server has another price for {number} than was shown. It is left alone. Tell the print room.')
             return 'failed' if refused.word == 'stopping' or ends else 'elsewhere'
         return self.print_documents(job, documents)
 
@@ -191,8 +191,8 @@ class Printing:
     def fetch_once(self, job):
         if not job['released'] and not self.is_here(job):
             raise Refused('not-released')
-        if not job.get('asked', True) and self.is_dearer(job):
-            raise Refused('dearer')
+        if not job.get('asked', True) and self.has_another_price(job):
+            raise Refused('another-price')
         which = f"{self.named(job)} {job['account']} {job['job']}"
         was_asked = self.keep_asked(job)
         try:
@@ -227,12 +227,12 @@ class Printing:
         """As which device the job is printed. Earlier versions keep none."""
         return job.get('device') or self.name
 
-    def is_dearer(self, job):
-        """Whether more is reserved for a job than its owner agreed to."""
-        if job.get('most') is None:
+    def has_another_price(self, job):
+        """Whether something else is reserved for a job than its owner agreed to."""
+        if job.get('cost') is None:
             return False
         row = self.row(job)
-        return row is not None and row.reserved > job['most']
+        return row is not None and row.reserved != job['cost']
 
     def is_canceled(self, job):
         """Whether its owner has canceled it since it was started."""
