@@ -267,9 +267,9 @@ class Judge:
         self.kill()
         self.start()
 
-    def asks(self, name, password=PASSWORD):
+    def asks(self, name, password=PASSWORD, word='ask'):
         """What it answers."""
-        return self.says(b'ask %b %b\n' % (base64.b64encode(as_bytes(name)), base64.b64encode(as_bytes(password))))
+        return self.says(b'%b %b %b\n' % (word.encode(), base64.b64encode(as_bytes(name)), base64.b64encode(as_bytes(password))))
 
     def says(self, data, seconds=30):
         with socket.socket(socket.AF_UNIX) as stream:
@@ -548,7 +548,7 @@ class Lemonldap:
 
     def log(self):
         with open(f'{self.folder}/log', encoding='utf-8') as file:
-            return file.read()[-3000:]
+            return file.read()[:1500]
 
 
 def url64(data):
@@ -623,6 +623,8 @@ class Browser:
                 return answer.status, answer.url, answer.read().decode(errors='replace')
         except urllib.error.HTTPError as error:
             return error.code, error.url, error.read().decode(errors='replace')
+        except urllib.error.URLError as error:
+            raise OSError(f'{place}: {error}') from error
 
 
 def is_there(path):
