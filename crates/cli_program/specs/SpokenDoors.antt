@@ -31,7 +31,7 @@ AreSpoken (door ∷ doors) (speech ∷ speeches) = IsSpokenAt door speech × Are
 AreSpoken _ _ = ⊥
 
 -- a hall served over the tables, and at its doors is spoken what the words name them for
-abbrev pub ServesAsked : {S : Type 0} (store : Ghosts S) (asked : Serving) (old new : Held S)
-    → Type 0
-ServesAsked store asked old new =
-    (whole : ServesWhole store old new) × AreSpoken asked.doors.items whole.doors
+pub record ServesAsked {S : Type 0} (store : Ghosts S) (asked : Serving) (old new : Held S)
+    : Type 0 where
+  pub whole : ServesWhole store old new
+  pub spoken : AreSpoken asked.doors.items whole.doors
