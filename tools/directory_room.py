@@ -434,7 +434,7 @@ class Kdc:
 class Provider:
     """The least provider of OpenID Connect, at http://127.0.0.14:9000, up to the end of the block: it signs in whom `who` names.
 
-    `claims` are put among those of the token, `lie` says what is wrong with it: `signature`, `none` (no algorithm), `audience`, `nonce`, `old`.
+    `claims` are put among those of the token, `lie` says what is wrong with it: `signature`, `audience`, `nonce`, `old`.
     """
     ISSUER = 'http://127.0.0.14:9000'
 
@@ -485,11 +485,11 @@ class Provider:
         claims = {'iss': self.ISSUER, 'sub': f'id-{self.who}', 'aud': 'printroom', 'exp': now + 600, 'iat': now, 'nonce': self.codes.pop(words['code']),
                   'preferred_username': self.who, **self.claims}
         claims.update({'audience': {'aud': 'another'}, 'nonce': {'nonce': 'another'}, 'old': {'exp': now - 9000, 'iat': now - 9600}}.get(self.lie, {}))
-        head = {'alg': 'none' if self.lie == 'none' else 'RS256', 'kid': '1'}
+        head = {'alg': 'RS256', 'kid': '1'}
         text = f'{url64(json.dumps(head).encode())}.{url64(json.dumps(claims).encode())}'
         key = f'{self.key}.other' if self.lie == 'signature' else self.key
         signed = subprocess.run(['openssl', 'dgst', '-sha256', '-sign', key], input=text.encode(), check=True, stdout=subprocess.PIPE).stdout
-        token = f'{text}.{"" if self.lie == "none" else url64(signed)}'
+        token = f'{text}.{url64(signed)}'
         self.say(asked, {'access_token': 'a', 'token_type': 'Bearer', 'expires_in': 600, 'id_token': token})
 
     @staticmethod
