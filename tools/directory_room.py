@@ -617,7 +617,8 @@ class Browser:
         return self.asks_at(self.base + path, data, fields)
 
     def asks_at(self, place, data=None, fields=()):
-        asked = urllib.request.Request(place, data, {name.replace('_', '-'): value for name, value in dict(fields).items()})
+        # Whoever does not accept pages, as a script, is told 401 in the place of being sent to sign in.
+        asked = urllib.request.Request(place, data, {'Accept': 'text/html', **{name.replace('_', '-'): value for name, value in dict(fields).items()}})
         try:
             with self.opener.open(asked, timeout=60) as answer:
                 return answer.status, answer.url, answer.read().decode(errors='replace')
