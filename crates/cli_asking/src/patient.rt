@@ -51,15 +51,19 @@ impl<'a, R: Read + Drop> Patient<'a, R> {
             return;
         }
         self.seen = now;
-        let copied = length(self.rt, self.part.as_str())
-            .saturating_add(length(self.rt, self.wal.as_str()));
+        let part = length(self.rt, self.part.as_str());
+        let copied = part.saturating_add(length(self.rt, self.wal.as_str()));
         if copied > self.copied {
             self.idle = 0;
         }
         self.copied = copied;
         let megabytes = copied / 1_000_000;
         // What can't be told is not worth the backup.
-        let _ = writeln!(self.rt.stderr(), "ipp-room: {megabytes} MB copied: {}", self.part);
+        let _ = writeln!(
+            self.rt.stderr(),
+            "ipp-room: {megabytes} MB copied: {}",
+            self.part
+        );
     }
 }
 
