@@ -389,7 +389,10 @@ class Lines:
                 self.items.append(self.line())
                 if words[0] == 'documents':
                     length = int(self.items[-1].split()[-1])
-                    self.items[-1] = self.read.read(length + 1)[:-1]
+                    document = self.read.read(length + 1)
+                    if len(document) <= length:
+                        raise OSError('the connection ended')
+                    self.items[-1] = document[:-1]
         return told
 
 
