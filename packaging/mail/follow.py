@@ -32,7 +32,7 @@ class Follower:
 
     def __init__(self, path: str, place: list | None, tell, clock=time.monotonic):
         self.path, self.tell, self.clock = path, tell, clock
-        self.file, self.moved, self.skips = None, None, False
+        self.file, self.moved, self.skips, self.is_read = None, None, False, False
         self.place = Place(*place) if place else Place(0, 0, '', 0, 0)
         if place is None:
             self.begin_at_end()
@@ -53,12 +53,15 @@ class Follower:
 
     def lines(self) -> list[bytes]:
         """The lines that have come, whole, without their ends. The place moves behind them."""
+        self.is_read = True
         if not self.file and not self.find():
             return []
         if self.is_cut():
             self.tell(f'{self.path} was cut: it is read from its beginning, and lines may have been lost')
             self.begin_anew()
+        is_over = self.was_moved()
         data = os.pread(self.file.fileno(), MOST_READ, self.place.offset)
+        self.is_read = len(data) < MOST_READ
         whole = data.rfind(b'\n') + 1
         if whole:
             found = data[:whole].split(b'\n')[:-1]
@@ -70,10 +73,14 @@ class Follower:
             # No program of ours writes such a line.
             self.put_place(self.place.offset + len(data))
             self.skips = True
-        elif self.was_moved():
+        elif is_over:
             self.close()
-            self.moved, self.place = None, Place(0, 0, '', self.place.last, self.place.behind)
+            self.moved, self.is_read, self.place = None, False, Place(0, 0, '', self.place.last, self.place.behind)
         return []
+
+    def has_more(self) -> bool:
+        """Whether the last call of `lines` left some that are there, or that may still come to a file that was moved away."""
+        return not self.is_read or self.moved is not None and self.clock() - self.moved < SECONDS_BEHIND_MOVE
 
     def counts(self, line: bytes) -> bool:
         """Whether the line is not one of those that were read before in another file."""
