@@ -17,6 +17,7 @@ import hmac
 import os
 import re
 import secrets
+import sys
 from collections.abc import Iterator
 
 from names import ACCOUNT, Unusable
@@ -74,6 +75,27 @@ def load(path: str = PINS) -> Pins:
         raise Unusable(f'{path}: {error.strerror}') from error
     except ValueError as error:
         raise Unusable(f'{path}: {error}') from error
+
+
+def accounts_of(data: bytes) -> list[str]:
+    """The accounts by which these lines begin, as `ipp-room-directory --gone` prints them. ValueError where another begins by none."""
+    if data and not data.endswith(b'\n'):
+        raise ValueError('its last line does not end')
+    accounts = [line.partition(' ')[0] for line in data.decode('ascii').split('\n')[:-1]]
+    for number, account in enumerate(accounts, 1):
+        if not re.fullmatch(ACCOUNT, account):
+            raise ValueError(f'line {number} begins by no account')
+    return accounts
+
+
+def named(words: list[str]) -> tuple[list[str], bool]:
+    """The accounts that these words name, and whether each has to have something: not so those of standard input, which `-` stands for."""
+    if words != ['-']:
+        return words, True
+    try:
+        return accounts_of(sys.stdin.buffer.read(MOST)), False
+    except ValueError as error:
+        raise Unusable(f'standard input: {error}') from error
 
 
 @contextlib.contextmanager
