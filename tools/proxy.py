@@ -1,4 +1,5 @@
 """haproxy by packaging/haproxy.cfg before a run of `serve`, for tools/page-tries and tools/names-tries: in a folder, on free ports."""
+import html
 import re
 import subprocess
 
@@ -24,7 +25,8 @@ class Proxy:
         subprocess.run(words, check=True, stderr=subprocess.DEVNULL)
         with open(f'{TOP}/packaging/haproxy.cfg', encoding='utf-8') as file, open(f'{TOP}/packaging/stations.cfg', encoding='utf-8') as more:
             text = file.read() + more.read()
-        for old, new in (('/etc/haproxy/room.pem', f'{folder}/room.pem'), ('/etc/haproxy/stations-ca.pem', f'{folder}/room.pem'),
+        subprocess.run([f'{TOP}/packaging/refusals', f'{folder}/refusals'], check=True)
+        for old, new in (('/usr/share/ipp-room/refusals', f'{folder}/refusals'), ('/etc/haproxy/room.pem', f'{folder}/room.pem'), ('/etc/haproxy/stations-ca.pem', f'{folder}/room.pem'),
                          ('/etc/haproxy/names.map', f'{folder}/names.map'), ('/etc/haproxy/others.map', f'{folder}/others.map'),
                          ('log /dev/log local0', 'log stdout format raw local0'), (':443 ', f':{self.port} '), (':631 ', f':{self.clients} '),
                          (':6312 ', f':{self.stations} '), ('unix@/run/ipp-room/pages', f'127.0.0.1:{pages}'),
@@ -70,6 +72,11 @@ class Proxy:
     def got(self):
         with open(f'{self.folder}/got', encoding='utf-8') as file:
             return file.read()
+
+    def said(self):
+        """The sentence of the page that came, if it refuses."""
+        found = re.search('</h1>\n<p>(.*)</p>\n', self.got())
+        return html.unescape(found[1]) if found else None
 
 
 def asking(judge):
