@@ -58,7 +58,9 @@ class Queue:
         """The status, the fields and the body of an answer; `words` are fields of the request, with `_` for `-`."""
         fields = {name.replace('_', '-'): value for name, value in words.items() if value is not None}
         with contextlib.closing(OverSocket(self.path)) as connection:
-            connection.request(method, path, body, fields)
+            # What it refuses it may not read to the end.
+            with contextlib.suppress(BrokenPipeError):
+                connection.request(method, path, body, fields)
             answer = connection.getresponse()
             return answer.status, answer.headers, answer.read().decode()
 
