@@ -564,7 +564,7 @@ Group www-data
 ErrorLog {folder}/error
 Define APACHE_LOG_DIR {folder}
 """ + ''.join(f'LoadModule {name}_module /usr/lib/apache2/modules/mod_{name}.so\n' for name in (
-    'mpm_event', 'authn_core', 'authz_core', 'authz_user', 'proxy', 'proxy_http', 'headers', 'socache_shmcb', 'ssl', 'auth_openidc'))
+    'mpm_event', 'alias', 'authn_core', 'authz_core', 'authz_user', 'proxy', 'proxy_http', 'headers', 'socache_shmcb', 'ssl', 'auth_openidc'))
 
 
 class Apache:
@@ -577,7 +577,8 @@ class Apache:
         write(f'{self.folder}/secret', 'OIDCClientSecret of-the-client\nOIDCCryptoPassphrase of-the-cookies\n')
         with open(f'{PACKAGE}/openid.conf', encoding='utf-8') as file:
             text = file.read()
-        for old, new in (('https://login.example.org/', f'{issuer}/'), ('/etc/apache2/openid.secret', f'{self.folder}/secret'), ('*:443', f'*:{port}'),
+        subprocess.run([f'{TOP}/packaging/refusals', f'{self.folder}/refusals'], check=True)
+        for old, new in (('https://login.example.org/', f'{issuer}/'), ('/usr/share/ipp-room/refusals', f'{self.folder}/refusals'), ('/etc/apache2/openid.secret', f'{self.folder}/secret'), ('*:443', f'*:{port}'),
                          ('https://printroom.example/~openid', f'https://printroom.example:{port}/~openid'), ('/etc/apache2/room.pem', certificate),
                          ('/run/ipp-room-sign-on/pages', place)):
             want(old in text, f'{old} is not in it')
