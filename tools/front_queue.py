@@ -14,7 +14,7 @@ USER = 'ipp-room-queue'
 SITE = 'https://printroom.example'
 # In the place of minutes.
 SECONDS = {'BETWEEN_LOOKS = 32, 10, 200, 10': 'BETWEEN_LOOKS = 32, 10, 200, 1',
-           'FIRST, LAST, PATIENCE = 60, 480, 86400': 'FIRST, LAST, PATIENCE = 3, 12, 86400'}
+           'FIRST, LAST, PATIENCE = 60, 480, 86400': 'FIRST, LAST, PATIENCE = 3, 12, 86400', 'LEFT = 60': 'LEFT = 3'}
 
 
 class OverSocket(http.client.HTTPConnection):

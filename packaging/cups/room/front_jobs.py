@@ -18,6 +18,8 @@ HELD, STOPPED, CANCELED, ABORTED = 4, 6, 7, 8
 FULL, NOT_HELD_BY_OWNER = '100 jobs wait in the account ', b'no-hold'
 # One whose documents still come.
 INCOMING = b'job-incoming'
+# What cupsd 2.4.2, begun anew, gives for the reason of each held job that nobody has held.
+NO_REASON = b'none'
 # Of an answer: seconds and bytes. cupsd keeps 10000 jobs, each with at most a kilobyte of what is asked.
 SECONDS, MOST_ANSWER = 10, 64 << 20
 # For so long what came of asking cupsd serves all who ask, also that it did not answer.
@@ -44,6 +46,14 @@ class Job:
     def is_full(self) -> bool:
         """Whether it waits for room in its account, and its owner has not held it since."""
         return self.may_go_on and self.until == NOT_HELD_BY_OWNER and self.why.startswith(FULL)
+
+    @property
+    def is_left_held(self) -> bool:
+        """Whether nobody holds it: it was to be tried again, or its last document had just come, when cupsd was killed.
+
+        One that cupsd lets go by itself, since it still knows when, is so too, for the JobRetryInterval.
+        """
+        return self.state == HELD and self.reason == NO_REASON and self.until == NOT_HELD_BY_OWNER and not self.is_full
 
     @property
     def is_told(self) -> bool:

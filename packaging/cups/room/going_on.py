@@ -1,8 +1,11 @@
-"""Lets jobs go on that wait for room in their account, the oldest of an account first.
+"""Lets jobs go on that wait for room in their account, the oldest of an account first, and those that a killed cupsd has left held.
 
 Only a try shows whether there is room: whoever could ask the release server would be every account there. A try costs the front what the
 job costs it. So of an account the oldest job alone is tried, a minute after it was held, then less and less often, and of all accounts a few
 a minute. A job that got through is followed by the next at once.
+
+cupsd keeps in job.cache when it tries a job again, and reads that file only where no job's own file is newer, by whole seconds. A cupsd that
+was killed between writing the two holds the job for good.
 """
 import time
 
@@ -12,6 +15,8 @@ from front_jobs import FrontJobs, Job
 FIRST, LAST, PATIENCE = 60, 480, 86400
 # Tries of all accounts in a minute.
 MOST_TRIES = 6
+# Seconds that a job is seen held by nobody, which are more than the JobRetryInterval.
+LEFT = 60
 
 
 class Tries:
@@ -19,6 +24,19 @@ class Tries:
 
     def __init__(self, now: float):
         self.job, self.at, self.wait = None, now, FIRST
+
+
+class LeftHeld:
+    """Lets go what a killed cupsd has left held. `clock` tells seconds that only grow."""
+
+    def __init__(self, jobs: FrontJobs, clock=time.monotonic):
+        self.jobs, self.clock, self.seen = jobs, clock, {}
+
+    def look(self, jobs: dict[str | None, list[Job]]) -> list[Job]:
+        """Lets go those of all accounts that have been seen so for a minute. Answers which."""
+        now, left = self.clock(), [job for of_account in jobs.values() for job in of_account if job.is_left_held]
+        self.seen = {(job.number, job.made): self.seen.get((job.number, job.made), now) for job in left}
+        return [job for job in left if now - self.seen[job.number, job.made] >= LEFT and self.jobs.let_go(job)]
 
 
 class GoingOn:

@@ -91,6 +91,8 @@ def reason_of(job: Job) -> str:
     why = job.why.strip()
     if job.is_full:
         return f'{why} It goes on by itself once there is room.'.strip()
+    if job.is_left_held:
+        return f'{why} It goes on by itself.'.strip()
     if job.may_go_on:
         return why or 'It waits until you let it go on.'
     return why or 'It waits for its turn.'
