@@ -120,6 +120,9 @@ class House:
         shutil.copytree(f'{self.tree}/packaging', f'{self.machine.root}/root/packaging', ignore=shutil.ignore_patterns('__pycache__',
                                                                                                                        'deb'))
         # What the page's commands read.
+        for name in ('tests/rows/nothing.html', 'crates/page_pages/src/style.rt'):
+            os.makedirs(os.path.dirname(f'{self.machine.root}/root/{name}'), exist_ok=True)
+            shutil.copy(f'{self.tree}/{name}', f'{self.machine.root}/root/{name}')
         write(f'{self.machine.root}/root/ask', '')
         with open(f'{self.machine.root}/root/ask', 'wb') as file:
             file.write(request('alice', GET_PRINTER))
