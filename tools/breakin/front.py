@@ -226,7 +226,7 @@ def words_of_a_shell(house):
         print_job('mallory', name=name, job=[attribute(KEYWORD, b'media', evil[:255]), attribute(KEYWORD, b'sides', b'one-sided'),
                                              attribute(NAME, b'page-label', evil[:255])])
     came(house, 'mallory', '--help')
-    want(house.machine.ask(f'ls /tmp/owned /var/spool/cups/tmp/owned')[1] != 0, 'a command of the job was run')
+    want(house.machine.ask('ls /tmp/owned /var/spool/cups/tmp/owned')[1] != 0, 'a command of the job was run')
     house.clear('mallory')
     return '4 jobs with names and choices that a shell would run: nothing was'
 

@@ -11,14 +11,13 @@ import re
 import select
 import shutil
 import subprocess
-import time
 
 from breakin.asking import CLIENTS, GET_PRINTER, NAME, PAGES, PRINT_JOB, STRANGERS, ask
-from breakin.attacks import FRONT, PROXY, short
+from breakin.attacks import FRONT, short
 from front import PASSWORD
 from machine import SURROUNDINGS, Machine, call, prepare
 from messages import TOP, attribute, integer, request
-from station_room import Device, Wrong, wait_until, want, write
+from station_room import Device, wait_until, want, write
 
 DEBIANS = ('cups cups-client cups-filters poppler-utils python3 haproxy socat openssl whois sqlite3 curl procps snmp').split()
 PRINTER, IPP, HOST = 'printer.example', 631, 'printroom.example'
