@@ -24,7 +24,7 @@ NEEDS_PIN = '= the pages need a PIN\n'
 
 # The doors by the end of a connection.
 OF_LINES = {'= told an operator': 'operators', '= told a station': 'stations', '= told the station of d1 and d3': 'station'}
-OPTIONS = ['--pages', '0', '--station', 'd1,d3=0']
+OPTIONS = ['--pages', '0', '--host', 'printroom.example,other.example:8443', '--station', 'd1,d3=0']
 WAYS = {'whole': False, 'cut': True}
 
 # A read of fewer bytes has brought all that was there, the program takes it: what comes behind it, the system tells. So the reads

@@ -73,7 +73,7 @@ class Room:
         """With two devices, 100 pages of this month for alice, and what came earlier, as lines of a script."""
         first = ['device hall on', 'device studio on', 'rate studio 5', f'grant alice {MONTH} 100', *lines]
         create(self.path, accounts, [*(f'{MOMENT} {line}' for line in first), *earlier])
-        self.serving = Serving(self.path, options=['--pages', '0', '--log', self.log, *options]).__enter__()
+        self.serving = Serving(self.path, options=['--pages', '0', '--host', 'printroom.example', '--log', self.log, *options]).__enter__()
         self.port = int(dict(self.serving.doors)['pages'])
         self.url = f'http://127.0.0.1:{self.port}'
         self.operators, self.stations = Lines(self.serving.operators), Lines(self.serving.stations)

@@ -1,1 +1,2 @@
+pub mod AnsweredHosts
 pub mod SpokenDoors

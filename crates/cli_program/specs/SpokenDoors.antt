@@ -7,6 +7,8 @@ use Rattle.cli_words.specs.declared.served_door.ServedDoor.{ServedDoor}
 use Rattle.cli_words.specs.declared.serving.Serving.{Serving}
 use Rattle.cli_words.specs.declared.visitors.Visitors.{Visitors}
 use Rattle.cli_words.specs.declared.visitors.Visitors.TheVariants.{BoundStations, Clients, Operators, Pages, Stations}
+use Rattle.cli_program.specs.AnsweredHosts.{hosts_for}
+use Rattle.serve_peers.specs.Journals.{hosts_of}
 use Rattle.serve_peers.specs.declared.line_connection.Side.TheVariants as side_is
 use Rattle.serve_sockets.specs.EndToEnd.{ServesWhole}
 use Rattle.serve_sockets.specs.declared.doors.Speech.{Speech}
@@ -30,8 +32,10 @@ AreSpoken [] [] = ⊤
 AreSpoken (door ∷ doors) (speech ∷ speeches) = IsSpokenAt door speech × AreSpoken doors speeches
 AreSpoken _ _ = ⊥
 
--- a hall served over the tables, and at its doors is spoken what the words name them for
+-- a hall served over the tables; at its doors is spoken what the words name them for, and the pages
+-- answer the Hosts that they say
 pub record ServesAsked {S : Type 0} (store : Ghosts S) (asked : Serving) (old new : Held S)
     : Type 0 where
   pub whole : ServesWhole store old new
   pub spoken : AreSpoken asked.doors.items whole.doors
+  pub hosts : hosts_of whole.before ≡ hosts_for asked

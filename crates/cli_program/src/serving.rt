@@ -1,10 +1,12 @@
 //! The command `serve`: one process for clients over HTTP, browsers, stations and operators. Here
 //! it is set up: its database, log, kept space and doors; `serve_sockets` serves.
-ghost use Rattle.std.specs.Prelude.{◌≡◌, ◌⊎◌, IfOk, IsErr, map};
-ghost use Rattle.serve_peers.specs.Journals.{store_of};
+ghost use Rattle.std.specs.Prelude.{◌≡◌, ◌⊎◌, IfOk, IsErr, OnOk, map, option_map};
+ghost use Rattle.std.specs.List.{list_any};
+ghost use Rattle.serve_peers.specs.Journals.{hosts_of, store_of};
 ghost use Rattle.serve_sockets.specs.Doors.{speech_of};
 ghost use Rattle.serve_sockets.specs.EndToEnd.{IsFresh, IsWhole};
 ghost use Rattle.serve_sockets.specs.Halls.{IsEmpty, doors_of, guests_of};
+ghost use Rattle.cli_program.specs.AnsweredHosts.{hosts_for, is_page_port, with_own};
 ghost use Rattle.cli_program.specs.SpokenDoors.{AreSpoken, IsSpokenAt, ServesAsked};
 
 use crate::database::serve_on_database;
@@ -13,7 +15,7 @@ use cli_databases::CopyFiles;
 use cli_words::{Address, Fault, MEMORY, ServedDoor, Serving, Visitors};
 use room_store::Store;
 use serve_log::{EventLog, LogFile};
-use serve_peers::{Copies, Served};
+use serve_peers::{Copies, PageRules, Served};
 use serve_sockets::{Door, Entrance, Hall, Kind, moment};
 use serve_space::Spare;
 use sqlite::{Alter, Connection};
@@ -34,6 +36,9 @@ pub fn serve<W: Write>(rt: &HostRuntime, asked: &Serving<'_>, output: &mut W) ->
     };
     serve_on_database(rt, asked.database, &mut command, output)
 }
+
+/// By which names this machine calls itself (RFC 6761 section 6.3).
+const OWN_HOSTS: &str = "localhost,127.0.0.1,[::1]";
 
 /// The command `serve`, begun at a moment, and its hall once that is open.
 struct ServeCommand<'a> {
@@ -94,7 +99,7 @@ fn serve_at_doors<S: Alter, W: Write>(
     Ok(ended?)
 }
 
-/// Sets up the log, the kept space, and whether the pages want a password.
+/// Sets up the log, the kept space, and what the pages hold requests to.
 fn set_up<S: Alter>(
     rt: &HostRuntime,
     served: &mut Served<S>,
@@ -103,14 +108,61 @@ fn set_up<S: Alter>(
     requires fresh { IsFresh served.old }
     ensures fresh { IsFresh served.new }
     ensures same { store_of served.new ≡ store_of served.old }
+    ensures hosts { OnOk result (hosts_of served.new ≡ hosts_for asked.now) }
 {
     if let Some(path) = asked.log {
         let file = LogFile::open(rt, path)?;
         served.set_log(EventLog::new(rt.alloc(), file));
     }
     served.set_spare(spare_for(rt, asked.database)?);
-    served.set_needs_password(asked.needs_password);
+    served.set_page_rules(PageRules {
+        needs_password: asked.needs_password,
+        hosts: hosts_for(rt.alloc(), asked)?,
+    });
     Ok(())
+}
+
+/// The names of the Hosts that the pages answer, parted by commas: this machine's own, and those that
+/// the command says. `None`, where it says none and no browser comes by a port: who stands before a
+/// socket has judged by which name it was asked.
+fn hosts_for(alloc: Global, asked: &Serving<'_>) -> Result<Option<&'static [u8]>, AllocError>
+    ensures { IfOk result
+        (λ hosts. option_map (λ names. names.now) hosts ≡ hosts_for asked.now) }
+{
+    match asked.hosts {
+        Some(names) => Ok(Some(with_own(alloc, names)?)),
+        None if has_page_port(asked.doors.as_slice()) => Ok(Some(OWN_HOSTS.as_bytes())),
+        None => Ok(None),
+    }
+}
+
+/// This machine's own names, and behind them these, in memory that is never freed.
+#[tactic(auto, using(std::proofs::Common::append_assoc))]
+fn with_own(alloc: Global, names: &str) -> Result<&'static [u8], AllocError>
+    ensures { IfOk result (λ all. all.now ≡ with_own names.now) }
+{
+    let mut all = Vec::new(alloc);
+    all.extend_from_slice(OWN_HOSTS.as_bytes())?;
+    all.push(b',')?;
+    all.extend_from_slice(names.as_bytes())?;
+    Ok(all.leak())
+}
+
+/// Whether browsers come by a port of this machine.
+fn has_page_port(doors: &[ServedDoor<'_>]) -> bool
+    ensures { result ≡ list_any is_page_port doors.now }
+{
+    doors.iter().any(|door| is_page_port(door))
+}
+
+/// Whether browsers come by the door, and it is a port.
+fn is_page_port(door: &ServedDoor<'_>) -> bool
+    ensures { result ≡ is_page_port door.now }
+{
+    match (door.visitors, door.address) {
+        (Visitors::Pages, Address::Port(_)) => true,
+        _ => false,
+    }
 }
 
 /// Runs the hall until an operator ends it, with backups as files of this machine.

@@ -17,7 +17,7 @@ use Rattle.cli_words.specs.declared.owner_errand.Printing.{Printing}
 use Rattle.client_operator.specs.declared.task.Task.{Task}
 use Rattle.client_operator.specs.declared.task.Task.TheVariants as task
 use Rattle.cli_words.specs.Addresses.{IsAddressOf, has_port_from}
-use Rattle.cli_words.specs.Visitors.{AreDoors, log_option, pin_option, value_behind}
+use Rattle.cli_words.specs.Visitors.{AreDoors, host_option, log_option, pin_option, value_behind}
 use Rattle.input_fields.specs.Fields.{SaysNumber}
 
 -- connections of one run of `listen`
@@ -96,12 +96,13 @@ abbrev pub is_owner_in_range : OwnerErrand → Bool
 is_owner_in_range errand = is_owner_task_in_range errand.task
 
 -- what the words of `serve` say: by their places the database and the addresses of three doors, and
--- behind them the options of further ones, of the log and of the PIN
+-- behind them the options of further ones, of the log, of the PIN and of Hosts
 pub record SaysServing (words : List (List ℕ)) (serving : Serving) : Type 0 where
   pub database : slice_get words 1 ≡ Some serving.database.now
   pub doors : AreDoors (drop 2 words) serving.doors.items
   pub log : option_map (λ path. path.now) serving.log ≡ value_behind log_option (drop 2 words)
   pub pin : serving.needs_password ≡ is_some (value_behind pin_option (drop 2 words))
+  pub hosts : option_map (λ names. names.now) serving.hosts ≡ value_behind host_option (drop 2 words)
 
 -- what the words of `listen` say by their places
 pub record SaysListening (words : List (List ℕ)) (listening : Listening) : Type 0 where

@@ -1,5 +1,7 @@
 -- Rule: Who comes in by the doors of `serve`, and by which address (this project's own).
-use Rattle.std.specs.Prelude.{◌≡◌, ◌⊎◌, ◌&&◌, ◌||◌, ℕ, Bool, true, false, if◌then◌else◌, IsTrue, List, [], ◌∷◌, codes, Option, Some, None}
+use Rattle.std.specs.Prelude.{◌≡◌, ◌⊎◌, ◌&&◌, ◌||◌, ◌==◌, ℕ, Bool, true, false, if◌then◌else◌, IsTrue, length, List, [], ◌∷◌, codes, nat_lt, Option, Some, None}
+use Rattle.std.specs.Char.{is_ascii_alphanumeric}
+use Rattle.std.specs.List.{list_all, list_any, slice_split}
 use Rattle.std.specs.Str.{bytes_eq}
 use Rattle.cli_words.specs.Addresses.{IsAddressOf, is_all_digits}
 use Rattle.cli_words.specs.ServedWords.{SaysPlace}
@@ -48,10 +50,25 @@ pin_option = codes "--pages-pin"
 abbrev pub is_required : (value : List ℕ) → Bool
 is_required value = bytes_eq value (codes "required")
 
--- these two are no door
+-- the word behind which names of Hosts stand
+abbrev pub host_option : List ℕ
+host_option = codes "--host"
+
+-- what a host in an address is spelled with (RFC 3986 section 3.2.2), with its port; no percent-encoding
+abbrev pub is_host_byte : ℕ → Bool
+is_host_byte byte = is_ascii_alphanumeric byte || list_any (λ mark. mark == byte) (codes "-._:[]")
+
+abbrev pub is_host : List ℕ → Bool
+is_host name = nat_lt 0 (length name) && list_all is_host_byte name
+
+-- names of hosts, at least one; one comma parts them
+abbrev pub are_hosts : (value : List ℕ) → Bool
+are_hosts value = list_all is_host (slice_split (λ b. b == 44) value)
+
+-- these three are no door
 abbrev pub is_no_door : (name value : List ℕ) → Bool
-is_no_door name value =
-    bytes_eq name log_option || (bytes_eq name pin_option && is_required value)
+is_no_door name value = bytes_eq name log_option || ((bytes_eq name pin_option && is_required value)
+    || (bytes_eq name host_option && are_hosts value))
 
 -- options, each a name and its value, are these doors, in order
 abbrev pub AreOptions : (words : List (List ℕ)) (doors : List ServedDoor) → Type 0

@@ -16,7 +16,7 @@ use crate::listening::Listening;
 use crate::owner_errand::{OwnerErrand, OwnerTask, Printing, job_name, queue_at};
 use crate::parser::program;
 use crate::sending::Sending;
-use crate::served_door::{doors_of, log_behind, needs_password};
+use crate::served_door::{doors_of, hosts_behind, log_behind, needs_password};
 use crate::serving::Serving;
 use crate::unfit::Unfit;
 use crate::words::{
@@ -273,6 +273,7 @@ fn serve_command<'a>(alloc: Global, words: &[&'a str]) -> Result<Command<'a>, Un
         doors: doors_of(alloc, doors)?,
         log: log_behind(doors),
         needs_password: needs_password(doors),
+        hosts: hosts_behind(doors),
     }))
 }
 

@@ -1,8 +1,9 @@
 //! The doors that the words of `serve` name, each with who comes in and where; and its other
 //! options.
 ghost use Rattle.std.specs.Prelude.{◌≡◌, ◌++◌, IfOk, IsTrue, List, OnOk, is_some, option_map};
+ghost use Rattle.std.specs.List.{list_all};
 ghost use Rattle.cli_words.specs.Addresses.{is_all_digits};
-ghost use Rattle.cli_words.specs.Visitors.{AreDoors, AreOptions, IsDoorOf, is_no_door, is_required, log_option, pin_option, value_among, value_behind};
+ghost use Rattle.cli_words.specs.Visitors.{AreDoors, AreOptions, IsDoorOf, are_hosts, host_option, is_host, is_host_byte, is_no_door, is_required, log_option, pin_option, value_among, value_behind};
 ghost use Rattle.cli_words.specs.Words.{texts};
 ghost use Rattle.cli_words.specs.declared.served_door.ServedDoor.{ServedDoor as PlainDoor};
 ghost use Rattle.cli_words.specs.declared.visitors.Visitors.TheVariants.{Clients};
@@ -18,6 +19,12 @@ const LOG: &str = "--log";
 
 /// The word behind which `required` stands, where the pages are to take no file without a PIN.
 const PAGES_PIN: &str = "--pages-pin";
+
+/// The word behind which the names of the Hosts stand that the pages answer.
+const HOST: &str = "--host";
+
+/// The bytes beside letters and digits that a host has in an address, with its port.
+const HOST_MARKS: &[u8] = b"-._:[]";
 
 /// A door that the words of `serve` name: who comes in there, and at which address. A port of 0 is
 /// a free one. `cli_program` opens it.
@@ -94,6 +101,13 @@ pub(crate) fn needs_password(words: &[&str]) -> bool
     value_behind(PAGES_PIN, words).is_some()
 }
 
+/// The names of the Hosts that the pages answer, parted by commas, if an option says them.
+pub(crate) fn hosts_behind<'a>(words: &[&'a str]) -> Option<&'a str>
+    ensures { option_map (λ names. names.now) result ≡ value_behind host_option (texts words.now) }
+{
+    value_behind(HOST, words)
+}
+
 /// The value of the first option of that name behind the three addresses.
 fn value_behind<'a>(option: &str, words: &[&'a str]) -> Option<&'a str>
     ensures { option_map (λ value. value.now) result ≡ value_behind option.now (texts words.now) }
@@ -115,11 +129,13 @@ fn value_among<'a>(option: &str, options: &[&'a str]) -> Option<&'a str>
     }
 }
 
-/// Whether an option names the file of the log, or that a PIN is required, and no door.
+/// Whether an option names the file of the log, that a PIN is required, or Hosts, and no door.
 fn is_no_door(name: &str, value: &str) -> bool
     ensures { result ≡ is_no_door name.now value.now }
 {
-    name == LOG || (name == PAGES_PIN && is_required(value))
+    name == LOG
+        || (name == PAGES_PIN && is_required(value))
+        || (name == HOST && are_hosts(value.as_bytes()))
 }
 
 /// Whether this is the only value that `--pages-pin` has.
@@ -127,6 +143,34 @@ fn is_required(value: &str) -> bool
     ensures { result ≡ is_required value.now }
 {
     value == "required"
+}
+
+/// Whether these are names of hosts, at least one, which commas part.
+fn are_hosts(value: &[u8]) -> bool
+    ensures { result ≡ are_hosts value.now }
+{
+    value.split(|byte| *byte == b',').all(|name| is_host(name))
+}
+
+/// Whether a text may be a host in an address, with a port or without.
+fn is_host(name: &[u8]) -> bool
+    ensures { result ≡ is_host name.now }
+{
+    !name.is_empty() && are_host_bytes(name)
+}
+
+/// Whether all bytes may stand in a host.
+fn are_host_bytes(name: &[u8]) -> bool
+    ensures { result ≡ list_all is_host_byte name.now }
+{
+    name.iter().all(|byte| is_host_byte(*byte))
+}
+
+/// Whether the byte may stand in a host: a letter, a digit or one of the marks.
+fn is_host_byte(byte: u8) -> bool
+    ensures { result ≡ is_host_byte byte }
+{
+    byte.is_ascii_alphanumeric() || HOST_MARKS.contains(&byte)
 }
 
 /// Reads the options, and adds the doors that they name to those that are there.
@@ -145,6 +189,9 @@ fn put_options<'a>(options: &[&'a str], doors: &mut Vec<ServedDoor<'a>>) -> Resu
     }
     if *name == PAGES_PIN {
         return Err(Unfit::PagesPin);
+    }
+    if *name == HOST {
+        return Err(Unfit::Hosts);
     }
     let visitors = Visitors::of_option(name).ok_or(Unfit::Option)?;
     let door = ServedDoor::read(visitors, value)?;

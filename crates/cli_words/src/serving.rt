@@ -18,6 +18,8 @@ pub struct Serving<'a> {
     pub log: Option<&'a str>,
     /// Whether the pages take no file without a password, a PIN.
     pub needs_password: bool,
+    /// The names of the Hosts that the pages answer, parted by commas, where they are said.
+    pub hosts: Option<&'a str>,
 }
 
 // In the place of `#[derive(Drop)]`, so that no caller proves again how each part is dropped.
@@ -28,6 +30,7 @@ impl Drop for Serving<'_> {
             doors: _,
             log: _,
             needs_password: _,
+            hosts: _,
         } = self;
     }
 }

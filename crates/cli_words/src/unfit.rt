@@ -18,6 +18,7 @@ pub(crate) enum Unfit {
     Devices,
     Option,
     PagesPin,
+    Hosts,
     Address,
     File,
     Month,
@@ -53,6 +54,9 @@ impl Unfit {
             }
             Unfit::Option => Some("options stand behind the words, each with its value"),
             Unfit::PagesPin => Some("--pages-pin has the value `required`, or is left out"),
+            Unfit::Hosts => Some(
+                "the value of --host is the names of hosts, parted by commas, as in an address",
+            ),
             Unfit::Address => Some("ADDRESS is a port from 1 to 65535, or a path"),
             Unfit::File => Some("FILE begins with / and has no space in it"),
             Unfit::Month => Some("YYYY-MM is a month from 2000-01 to 2099-12"),

@@ -101,6 +101,11 @@ const LOG: &str = "log";
 
 const PAGES_PIN: &str = "pages-pin";
 
+const HOST: &str = "host";
+
+/// The value of `--host`, as the help shows it.
+const HOSTS: &str = "NAME[,NAME..]";
+
 pub(crate) const ADDRESS: &str = "ADDRESS";
 
 pub(crate) const FOLDER: &str = "FOLDER";
@@ -285,6 +290,12 @@ const PIN_ON_PAGES: Argument = Argument {
     kind: Kind::Named(REQUIRED),
 };
 
+const BY_HOST: Argument = Argument {
+    name: HOST,
+    help: Some("The names by which browsers reach the pages"),
+    kind: Kind::Named(HOSTS),
+};
+
 const OF_MONTH: Argument = Argument {
     name: MONTH,
     help: Some("YYYY-MM, from 2000-01 to 2099-12"),
@@ -447,6 +458,7 @@ pub(crate) const COMMANDS: [CommandWords; 25] = [
             ONE_STATION,
             MORE_OPERATORS,
             PIN_ON_PAGES,
+            BY_HOST,
             TO_LOG,
         ],
     },

@@ -7,9 +7,10 @@ ghost use Rattle.page_pages.specs.Refusals.{heading, refusal_card, refusal_page,
 
 use crate::frame::{put_document, put_top};
 use crate::texts::{
-    ASK_AGAIN, BAD_REQUEST, CANNOT_DO, FAILED_HERE, FROM_ELSEWHERE, HAS_FAILED, HAS_NO_PASSWORD,
-    IS_BAD_REQUEST, IS_FULL, IS_ONLY_DONE, IS_ONLY_READ, IS_TOO_LARGE, IS_WRONG_TYPE, NO_PAGE,
-    NO_SUCH_PAGE, NOT_NOW, PASSWORD_MISSING, PRINT_ROOM, START_PAGE, TOO_LARGE, WAS_NOT_DONE,
+    ASK_AGAIN, BAD_REQUEST, BY_OTHER_NAME, CANNOT_DO, FAILED_HERE, FROM_ELSEWHERE, HAS_FAILED,
+    HAS_NO_PASSWORD, IS_BAD_REQUEST, IS_FULL, IS_ONLY_DONE, IS_ONLY_READ, IS_TOO_LARGE,
+    IS_WRONG_TYPE, NO_PAGE, NO_SUCH_PAGE, NOT_NOW, OTHER_NAME, PASSWORD_MISSING, PRINT_ROOM,
+    START_PAGE, TOO_LARGE, WAS_NOT_DONE,
 };
 use page_markup::{Piece, put_all};
 use std::alloc::AllocError;
@@ -19,6 +20,8 @@ use std::alloc::AllocError;
 pub enum Refusal {
     /// A query or a form that is none of its path.
     BadRequest,
+    /// A Host that is not answered.
+    Misdirected,
     /// A form that another site may have sent.
     Forbidden,
     /// A path of nothing, or of an account that is not open.
@@ -57,6 +60,7 @@ fn heading(refusal: Refusal) -> &'static str
 {
     match refusal {
         Refusal::BadRequest => BAD_REQUEST,
+        Refusal::Misdirected => OTHER_NAME,
         Refusal::Forbidden => WAS_NOT_DONE,
         Refusal::NotFound => NO_PAGE,
         Refusal::OnlyRead | Refusal::OnlyPost | Refusal::WrongType => CANNOT_DO,
@@ -73,6 +77,7 @@ fn sentence(refusal: Refusal) -> &'static str
 {
     match refusal {
         Refusal::BadRequest => IS_BAD_REQUEST,
+        Refusal::Misdirected => BY_OTHER_NAME,
         Refusal::Forbidden => FROM_ELSEWHERE,
         Refusal::NotFound => NO_SUCH_PAGE,
         Refusal::OnlyRead => IS_ONLY_READ,

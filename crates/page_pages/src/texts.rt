@@ -261,6 +261,11 @@ pub(crate) const BAD_REQUEST: &str = "This was not understood";
 pub(crate) const IS_BAD_REQUEST: &str =
     "The address, or what the form said, is none that a page here makes. Nothing was done.";
 
+pub(crate) const OTHER_NAME: &str = "This is not the address of these pages";
+
+pub(crate) const BY_OTHER_NAME: &str =
+    "The pages are not answered by the name in the address. The print room knows by which they are.";
+
 pub(crate) const WAS_NOT_DONE: &str = "This was not done";
 
 pub(crate) const FROM_ELSEWHERE: &str =

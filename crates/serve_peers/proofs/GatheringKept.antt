@@ -2,7 +2,7 @@
 use Rattle.std.proofs.Common.{◌≡◌, ℕ, Bool, true, false, List, [], ◌∷◌, Option, None, Some, refl, sym, ap, subst, ◌∙◌, append-nil}
 use Rattle.sqlite.specs.Held.{Held}
 use Rattle.sqlite_trees.specs.declared.store.Store.{Ghosts}
-use Rattle.serve_peers.proofs.BackupKept.{only_background, pin_of}
+use Rattle.serve_peers.proofs.BackupKept.{only_background, rules_of}
 use Rattle.serve_peers.proofs.Journaling.{background_noted}
 use Rattle.serve_peers.specs.Applying.{DoesEach, OnlyLooks}
 use Rattle.serve_peers.specs.Gathering.{AddsBy, StepsOn, gathered_then, next_of}
@@ -29,7 +29,7 @@ kept_of_taken GivenUp it = refl
 module _ {S : Type 0} (store : Ghosts S) where
   -- where somebody asks for the page
   abbrev pub gathered_only : (served : Served S) (gathered : Gathered) → Continues store served (with_gathered served gathered)
-  gathered_only served gathered = record { more = []; notes = background_noted (shares_of served) served (record served.background { gathered = gathered }); does = refl; shares = refl; is_lost = refl; needs_password = refl }
+  gathered_only served gathered = record { more = []; notes = background_noted (shares_of served) served (record served.background { gathered = gathered }); does = refl; shares = refl; is_lost = refl; page_rules = refl }
 
   adds_looks : (next : Option (List ℕ)) (from : Adding) (old new : Held S) (to : Stepped) → AddsBy store next from old new to → OnlyLooks store old new
   adds_looks (Some account) from old new to adds = adds.looks
@@ -61,11 +61,11 @@ module _ {S : Type 0} (store : Ghosts S) where
         does = subst (λ b. DoesEach store b (store_of old) (None ∷ []) (store_of new)) (sym alone) (store_of new, step_looks gathering (store_of old) (store_of new) is.stepped is.steps, refl);
         shares = ap (λ (served : Served S). shares_of served) same;
         is_lost = ap (λ (served : Served S). is_lost_of served) same;
-        needs_password = pin_of is.same;
+        page_rules = rules_of is.same;
       },
       refl,
     )
 
     pub gathered : (under_way : Option Gathering) → GathersBy store under_way old.background new.background (store_of old) (store_of new) old.journal new.journal → OnlyKeeps store old new
-    gathered None none = only_background store old new same none.1 none.2 (pin_of none.0)
+    gathered None none = only_background store old new same none.1 none.2 (rules_of none.0)
     gathered (Some gathering) is = a_step gathering is

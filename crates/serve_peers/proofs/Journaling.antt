@@ -20,7 +20,7 @@ use Rattle.serve_peers.specs.LinePeers as line_peers
 use Rattle.serve_peers.specs.ProofServices.{answer_continues, one_more, stays}
 use Rattle.serve_peers.specs.LinePeers.{LineCall}
 use Rattle.serve_peers.specs.declared.line_connection.Side.{Side}
-use Rattle.serve_peers.specs.Journals.{Notes, Told, applied, asked_of, by_themselves, is_lost_of, list_of, needs_password_of, open_of, round_alone, rounds_of, shares_of, store_of}
+use Rattle.serve_peers.specs.Journals.{Notes, Told, applied, asked_of, by_themselves, is_lost_of, list_of, page_rules_of, open_of, round_alone, rounds_of, shares_of, store_of}
 use Rattle.serve_peers.specs.Applying.{DoesEach, Leads, OnlyLooks}
 use Rattle.serve_peers.specs.Rounds.{Ends, IsSettled}
 use Rattle.serve_peers.specs.Space.{spare_of}
@@ -58,8 +58,8 @@ background_noted false served background = (sym (append-nil (rounds_of served)),
 background_noted true served background = (refl, sym (append-nil (open_of served)), sym (append-nil (asked_of served)))
 
 module _ {S : Type 0} (store : Ghosts S) where
-  unfoldable pub background_only : (served : Served S) (background : Background) → background.needs_password ≡ needs_password_of served → Continues store served (record served { background = background })
-  background_only served background pin = record { more = []; notes = background_noted (shares_of served) served background; does = refl; shares = refl; is_lost = refl; needs_password = pin }
+  unfoldable pub background_only : (served : Served S) (background : Background) → background.page_rules ≡ page_rules_of served → Continues store served (record served { background = background })
+  background_only served background rules = record { more = []; notes = background_noted (shares_of served) served background; does = refl; shares = refl; is_lost = refl; page_rules = rules }
 
   pub looks_only : (question : Question) (told : Result Reply StoreFault) (old new : Held S) → AnswersQuestion store question old new told → OnlyLooks store old new
   looks_only question told old new answers = record { unchanged = answers.same; connection = answers.connection }
@@ -72,7 +72,7 @@ module _ {S : Type 0} (store : Ghosts S) where
     does = subst (λ b. DoesEach store b (store_of old) (None ∷ []) (store_of new)) (sym next.alone) (store_of new, looks_only question told (store_of old) (store_of new) next.answers, refl);
     shares = ap (λ (served : Served S). shares_of served) next.same;
     is_lost = ap (λ (served : Served S). is_lost_of served) next.same;
-    needs_password = ap (λ (served : Served S). needs_password_of served) next.same;
+    page_rules = ap (λ (served : Served S). page_rules_of served) next.same;
   }
 
   -- a line of a backup
@@ -101,7 +101,7 @@ module _ {S : Type 0} (store : Ghosts S) where
     does = does_then (shares_of old) first.more later.more (store_of old) (store_of mid) (store_of new) first.does (subst (λ b. DoesEach store b (store_of mid) later.more (store_of new)) first.shares later.does);
     shares = later.shares ∙ first.shares;
     is_lost = later.is_lost ∙ first.is_lost;
-    needs_password = later.needs_password ∙ first.needs_password;
+    page_rules = later.page_rules ∙ first.page_rules;
   }
 
   -- ---- requests over HTTP

@@ -1,6 +1,6 @@
 -- What a clause reads of what is served: its rounds, its tables, its moment, whether a round is
 -- under way, and whether the last one's commit failed (all this project's own).
-use Rattle.std.specs.Prelude.{◌≡◌, ℕ, Bool, true, false, List, [], ◌∷◌, ◌++◌, map, nat_lt, Option, None, Some}
+use Rattle.std.specs.Prelude.{◌≡◌, ℕ, Bool, true, false, List, [], ◌∷◌, ◌++◌, map, nat_lt, option_map, Option, None, Some}
 use Rattle.std.specs.List.{flat_map}
 use Rattle.sqlite.specs.Held.{Held}
 use Rattle.account_machine.specs.Events.{Timed}
@@ -11,6 +11,7 @@ use Rattle.serve_peers.specs.Entries.{timed}
 use Rattle.serve_peers.specs.Logged.{log_lags}
 pub use Rattle.serve_peers.specs.Tolds.{Told, Round, round_in, kept_in}
 use Rattle.serve_peers.specs.declared.entry.Entry.{Entry}
+use Rattle.serve_peers.specs.declared.page_rules.PageRules.{PageRules}
 use Rattle.serve_peers.specs.declared.served.Served.{Served}
 
 -- the one that is there
@@ -69,7 +70,15 @@ ends_of served = served.background.ends
 
 -- the pages take no file without a password
 abbrev pub needs_password_of : {S : Type 0} → Served S → Bool
-needs_password_of served = served.background.needs_password
+needs_password_of served = served.background.page_rules.needs_password
+
+-- the names of the Hosts that the pages answer, parted by commas; with None they answer each
+abbrev pub hosts_of : {S : Type 0} → Served S → Option (List ℕ)
+hosts_of served = option_map (λ names. names.now) served.background.page_rules.hosts
+
+-- what the pages hold requests to
+abbrev pub page_rules_of : {S : Type 0} → Served S → PageRules
+page_rules_of served = served.background.page_rules
 
 -- lines wait that the file of the log has not taken
 abbrev pub log_lags_of : {S : Type 0} → Served S → Bool

@@ -5,6 +5,7 @@ pub mod Watching
 pub mod Logged
 pub mod Logging
 pub mod Writing
+pub mod PageRules
 pub mod Journals
 pub mod LogLaws
 pub mod Applying

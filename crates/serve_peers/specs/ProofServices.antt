@@ -23,14 +23,14 @@ nothing_noted true served = (refl, sym (append-nil (open_of served)), sym (appen
 
 module _ {S : Type 0} (store : Ghosts S) where
   unfoldable pub stays : (served : Served S) → Continues store served served
-  stays served = record { more = []; notes = nothing_noted (shares_of served) served; does = refl; shares = refl; is_lost = refl; needs_password = refl }
+  stays served = record { more = []; notes = nothing_noted (shares_of served) served; does = refl; shares = refl; is_lost = refl; page_rules = refl }
 
   pub does_one : (shares : Bool) (entry : Entry) (told : Result Answered StoreFault) (old new : Held S) → AppliesEntry store shares entry old new told → DoesOne store shares (Some (entry, told)) old new
   does_one false entry told old new is = is
   does_one true entry told old new is = is
 
   unfoldable pub one_more : (entry : Entry) (told : Result Answered StoreFault) (old new : Served S) → AppliesNext store entry told old new → Continues store old new
-  one_more entry told old new next = record { more = Some (entry, told) ∷ []; notes = next.notes; does = (store_of new, does_one (shares_of old) entry told (store_of old) (store_of new) next.applies, refl); shares = next.shares; is_lost = next.is_lost; needs_password = ap (λ (background : Background). background.needs_password) next.background }
+  one_more entry told old new next = record { more = Some (entry, told) ∷ []; notes = next.notes; does = (store_of new, does_one (shares_of old) entry told (store_of old) (store_of new) next.applies, refl); shares = next.shares; is_lost = next.is_lost; page_rules = ap (λ (background : Background). background.page_rules) next.background }
 
   gives : (wants : Result (List ℕ) Refusal) (old : Served S) (request : Request (List ℕ)) (response : Response) (new : Served S) → Gives store wants old request response new → Continues store old new
   gives (Ok account) old request response new is = one_more _ is.told old new is.next

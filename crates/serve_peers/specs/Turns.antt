@@ -9,7 +9,7 @@ use Rattle.room_store.specs.Questions.{AnswersQuestion}
 use Rattle.store_rounds.specs.declared.fault.StoreFault.{StoreFault}
 use Rattle.serve_peers.specs.declared.entry.Entry.{Entry}
 use Rattle.serve_peers.specs.declared.served.Served.{Served}
-use Rattle.serve_peers.specs.Journals.{Notes, Told, ends_of, is_lost_of, moment_of, needs_password_of, open_of, rounds_of, shares_of, store_of}
+use Rattle.serve_peers.specs.Journals.{Notes, Told, ends_of, is_lost_of, moment_of, open_of, page_rules_of, rounds_of, shares_of, store_of}
 use Rattle.serve_peers.specs.Applying.{AppliesEntry, DoesEach}
 
 module _ {S : Type 0} (store : Ghosts S) where
@@ -38,12 +38,12 @@ module _ {S : Type 0} (store : Ghosts S) where
       background = record old.background { ends = ends_of new };
     }
 
-  -- What came is noted, and it, and nothing else, made of the tables what they are. Whether pages
-  -- take a file without a password stays.
+  -- What came is noted, and it, and nothing else, made of the tables what they are. What the
+  -- pages hold requests to stays.
   pub record Continues (old new : Served S) : Type 0 where
     pub more : List (Option Told)
     pub notes : Notes (shares_of old) more old new
     pub does : DoesEach store (shares_of old) (store_of old) more (store_of new)
     pub shares : shares_of new ≡ shares_of old
     pub is_lost : is_lost_of new ≡ is_lost_of old
-    pub needs_password : needs_password_of new ≡ needs_password_of old
+    pub page_rules : page_rules_of new ≡ page_rules_of old

@@ -1,16 +1,18 @@
 //! The work between the turns of peers: a backup is made slice by slice, and accounts are gathered
-//! for the print room's page. Two settings stand here too: whether serving is to end, and whether
-//! pages want a password.
+//! for the print room's page. Two settings stand here too: whether serving is to end, and what the
+//! pages hold requests to.
 ghost use Rattle.std.specs.Prelude.{◌≡◌, false, IfOk, IsTrue, None, OnErr, Some};
 ghost use Rattle.serve_peers.specs.Backups.{AsksBackup};
 ghost use Rattle.serve_peers.specs.Copies.{copy_in};
 ghost use Rattle.serve_peers.specs.Keeping.{DoesSlice, KeepsOn, MakesCopy, is_begun, is_wanted, stage_in};
 ghost use Rattle.serve_peers.specs.Overviews.{GathersBy, GathersOn};
+ghost use Rattle.serve_peers.specs.PageRules.{no_page_rules};
 
 use crate::backup::{Backup, BackupTold, Stage, ask_slice, begin_backup};
 use crate::copies::{Copies, SliceOutcome};
 use crate::gathering::{Gathered, Gathering};
 use crate::journal::Journal;
+use crate::page_rules::PageRules;
 use input_lines::BackupLine;
 use sqlite::{Alter, Connection};
 use std::alloc::{AllocError, Global};
@@ -25,8 +27,8 @@ pub struct Background {
     pub(crate) gathered: Gathered,
     /// Whether an operator asked that serving ends.
     pub(crate) ends: bool,
-    /// Whether the pages take no file without a password.
-    pub(crate) needs_password: bool,
+    /// What the pages hold requests to.
+    pub(crate) page_rules: PageRules,
 }
 
 // By hand, in the place of `#[derive(Drop)]`: the head of lib.rt says why.
@@ -36,7 +38,7 @@ impl Drop for Background {
             backup: _,
             gathered: _,
             ends: _,
-            needs_password: _,
+            page_rules: _,
         } = self;
     }
 }
@@ -46,13 +48,13 @@ impl Background {
     pub(crate) fn new(alloc: Global, moment: u64) -> Background
         ensures backup { result.backup ≡ None }
         ensures ends { result.ends ≡ false }
-        ensures needs_password { result.needs_password ≡ false }
+        ensures page_rules { result.page_rules ≡ no_page_rules }
     {
         Background {
             backup: None,
             gathered: Gathered::nothing(alloc, moment),
             ends: false,
-            needs_password: false,
+            page_rules: PageRules::NONE,
         }
     }
 

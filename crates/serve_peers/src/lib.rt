@@ -39,6 +39,7 @@ mod line_text;
 mod logging;
 mod outcome;
 mod own_devices;
+mod page_rules;
 mod patience;
 mod progress;
 mod queue_service;
@@ -61,6 +62,7 @@ pub use laws::{
 };
 pub use line_connection::{Front, LineConnection, MOST_LINE, Side};
 pub use line_peer::LinePeer;
+pub use page_rules::PageRules;
 pub use patience::Patience;
 pub use queue_service::put_close;
 pub use request::has_long_body;

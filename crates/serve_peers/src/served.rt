@@ -1,9 +1,9 @@
 //! The rooms as one process serves them to everybody: the tables, the journal of what is applied to
 //! them, in rounds or by itself, and the space that is kept for a full disk. What goes on beside
 //! that is `Background`.
-ghost use Rattle.std.specs.Prelude.{◌≡◌, ◌≢◌, ◌⊎◌, ◌≤◌, ◌++◌, ℕ, List, [], false, IsTrue, None, IfOk, OnErr, OnOk};
+ghost use Rattle.std.specs.Prelude.{◌≡◌, ◌≢◌, ◌⊎◌, ◌≤◌, ◌++◌, ℕ, List, [], false, IsTrue, None, IfOk, OnErr, OnOk, option_map};
 ghost use Rattle.serve_log.specs.Waits.{drafts_of, logged_of};
-ghost use Rattle.serve_peers.specs.Journals.{asked_of, ends_of, is_full_of, is_lost_of, log_lags_of, moment_of, needs_password_of, open_of, rounds_of, shares_of, store_of};
+ghost use Rattle.serve_peers.specs.Journals.{asked_of, ends_of, is_full_of, is_lost_of, log_lags_of, hosts_of, moment_of, needs_password_of, open_of, rounds_of, shares_of, store_of};
 ghost use Rattle.serve_peers.specs.Space.{lacks_space, spare_of};
 ghost use Rattle.serve_space.specs.Spares.{any_length, held_of, takes_of};
 ghost use Rattle.serve_peers.specs.Copies.{copy_in};
@@ -22,6 +22,7 @@ use crate::entry::Entry;
 use crate::full_disk::{apply_or_free_space, log_from_space, note_space};
 use crate::journal::Journal;
 use crate::outcome::{is_done, size_of};
+use crate::page_rules::PageRules;
 use crate::request::needs_space;
 use account_machine::{Answered, Name, Reply};
 use account_questions::Question;
@@ -96,6 +97,7 @@ impl<S: Alter> Served<S> {
         ensures goes_on { ends_of result ≡ false }
         ensures no_backup { backup_of result ≡ None }
         ensures takes_without_password { needs_password_of result ≡ false }
+        ensures answers_each_host { hosts_of result ≡ None }
     {
         Served {
             alloc,
@@ -369,20 +371,27 @@ impl<S: Alter> Served<S> {
         self.background.ends
     }
 
-    /// Sets whether the pages refuse a file without a password.
-    pub fn set_needs_password(&mut self, needs_password: bool)
+    /// Sets what the pages hold requests to.
+    pub fn set_page_rules(&mut self, rules: PageRules)
         ensures { self.new ≡ record self.old {
-          background = record self.old.background { needs_password = needs_password };
+          background = record self.old.background { page_rules = rules };
         } }
     {
-        self.background.needs_password = needs_password;
+        self.background.page_rules = rules;
     }
 
     /// Whether the pages take no file without a password.
     pub fn needs_password(&self) -> bool
         ensures { result ≡ needs_password_of self.now }
     {
-        self.background.needs_password
+        self.background.page_rules.needs_password
+    }
+
+    /// The names of the Hosts that the pages answer, parted by commas. `None`: they answer each.
+    pub fn hosts(&self) -> Option<&'static [u8]>
+        ensures { option_map (λ names. names.now) result ≡ hosts_of self.now }
+    {
+        self.background.page_rules.hosts
     }
 
     /// Takes a line of a backup, and answers what it is told.

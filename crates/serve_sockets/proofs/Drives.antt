@@ -8,7 +8,7 @@ use Rattle.std.proofs.lemmas.Bool.{true≢false}
 use Rattle.http_server.specs.Exchange.{Call, Chain}
 use Rattle.serve_peers.specs.ProofServices.{one_more, stays}
 use Rattle.serve_peers.proofs.Journaling.{chain, leads_applied, leads_then, line_chain}
-use Rattle.serve_peers.specs.Journals.{Notes, Round, Told, applied, by_themselves, needs_password_of, open_of, rounds_of, shares_of, store_of}
+use Rattle.serve_peers.specs.Journals.{Notes, Round, Told, applied, by_themselves, page_rules_of, open_of, rounds_of, shares_of, store_of}
 use Rattle.serve_peers.specs.Applying.{DoesEach, DoesOne, Leads, OnlyLooks}
 use Rattle.serve_peers.specs.Turns.{Continues}
 use Rattle.serve_peers.specs.Rounds.{AllSettle, Begins, Follows, IsRefused}
@@ -81,35 +81,35 @@ module _ {S : Type 0} (store : Ghosts S) where
 
   -- ---- whether pages take a file without a password stays
 
-  turn_pin : (shares : Bool) (turn : Turn) (next : Next) (guest left : Guest) (old new : Served S) → Turns store shares turn next guest left old new → needs_password_of new ≡ needs_password_of old
-  turn_pin false turn next guest left old new turns = (turn_continues of_socket of_socket next _ _ turns.mid new turns.takes).needs_password ∙ (again_continues _ _ _ _ old turns.mid turns.again).needs_password
-  turn_pin true turn next guest left old new turns = ap (λ (served : Served S). needs_password_of served) turns.same ∙ (turn_continues in_round in_round next _ _ (record old { asked = guest.asked }) turns.left turns.takes).needs_password
+  turn_rules : (shares : Bool) (turn : Turn) (next : Next) (guest left : Guest) (old new : Served S) → Turns store shares turn next guest left old new → page_rules_of new ≡ page_rules_of old
+  turn_rules false turn next guest left old new turns = (turn_continues of_socket of_socket next _ _ turns.mid new turns.takes).page_rules ∙ (again_continues _ _ _ _ old turns.mid turns.again).page_rules
+  turn_rules true turn next guest left old new turns = ap (λ (served : Served S). page_rules_of served) turns.same ∙ (turn_continues in_round in_round next _ _ (record old { asked = guest.asked }) turns.left turns.takes).page_rules
 
-  serves_pin : (was now : Option Guest) (old new : Served S) → Serves store was now old new → needs_password_of new ≡ needs_password_of old
-  serves_pin None now old new (told, vacant) = ap (λ (served : Served S). needs_password_of served) vacant.1.1
-  serves_pin (Some guest) now old new (Some told, (driven, at, by)) = turn_pin _ driven.turn driven.next guest driven.left driven.begun new driven.driven ∙ ap (λ (served : Served S). needs_password_of served) driven.moment.1
-  serves_pin (Some guest) now old new (None, gone) = ap (λ (served : Served S). needs_password_of served) gone.1
+  serves_rules : (was now : Option Guest) (old new : Served S) → Serves store was now old new → page_rules_of new ≡ page_rules_of old
+  serves_rules None now old new (told, vacant) = ap (λ (served : Served S). page_rules_of served) vacant.1.1
+  serves_rules (Some guest) now old new (Some told, (driven, at, by)) = turn_rules _ driven.turn driven.next guest driven.left driven.begun new driven.driven ∙ ap (λ (served : Served S). page_rules_of served) driven.moment.1
+  serves_rules (Some guest) now old new (None, gone) = ap (λ (served : Served S). page_rules_of served) gone.1
 
-  step_pin : (step : Step) (a b : Slab Guest) (old new : Served S) → Does store step a b old new → needs_password_of new ≡ needs_password_of old
-  step_pin Keep a b old new does = does.1.0.needs_password
-  step_pin Begin a b old new does = elim does.2 [
-    | inl under_way ↦ ap (λ (served : Served S). needs_password_of served) under_way.1
-    | inr (inl begun) ↦ ap (λ (served : Served S). needs_password_of served) begun.same
-    | inr (inr not_begun) ↦ ap (λ (served : Served S). needs_password_of served) not_begun.same
+  step_rules : (step : Step) (a b : Slab Guest) (old new : Served S) → Does store step a b old new → page_rules_of new ≡ page_rules_of old
+  step_rules Keep a b old new does = does.1.0.page_rules
+  step_rules Begin a b old new does = elim does.2 [
+    | inl under_way ↦ ap (λ (served : Served S). page_rules_of served) under_way.1
+    | inr (inl begun) ↦ ap (λ (served : Served S). page_rules_of served) begun.same
+    | inr (inr not_begun) ↦ ap (λ (served : Served S). page_rules_of served) not_begun.same
   ]
-  step_pin (Ask key) a b old new does = serves_pin _ _ old new does.1
-  step_pin Settle a b old new does = elim does.1 [
-    | inl none ↦ ap (λ (served : Served S). needs_password_of served) none.1
-    | inr settled ↦ ap (λ (served : Served S). needs_password_of served) settled.same
+  step_rules (Ask key) a b old new does = serves_rules _ _ old new does.1
+  step_rules Settle a b old new does = elim does.1 [
+    | inl none ↦ ap (λ (served : Served S). page_rules_of served) none.1
+    | inr settled ↦ ap (λ (served : Served S). page_rules_of served) settled.same
   ]
-  step_pin (Serve key) a b old new does = serves_pin _ _ old new does.1
-  step_pin (Drop key) a b old new does = ap (λ (served : Served S). needs_password_of served) does.2
-  step_pin (Enter doors) a b old new does = ap (λ (served : Served S). needs_password_of served) does.1
-  step_pin Leave a b old new does = ap (λ (served : Served S). needs_password_of served) does.1
+  step_rules (Serve key) a b old new does = serves_rules _ _ old new does.1
+  step_rules (Drop key) a b old new does = ap (λ (served : Served S). page_rules_of served) does.2
+  step_rules (Enter doors) a b old new does = ap (λ (served : Served S). page_rules_of served) does.1
+  step_rules Leave a b old new does = ap (λ (served : Served S). page_rules_of served) does.1
 
-  pub same_pin : (steps : List Step) (a b : Slab Guest) (old new : Served S) → DoesAll store steps a b old new → needs_password_of new ≡ needs_password_of old
-  same_pin [] a b old new does = ap (λ (served : Served S). needs_password_of served) does.1
-  same_pin (step ∷ steps) a b old new does = same_pin steps does.0 b does.1 new does.3 ∙ step_pin step a does.0 old does.1 does.2
+  pub same_rules : (steps : List Step) (a b : Slab Guest) (old new : Served S) → DoesAll store steps a b old new → page_rules_of new ≡ page_rules_of old
+  same_rules [] a b old new does = ap (λ (served : Served S). page_rules_of served) does.1
+  same_rules (step ∷ steps) a b old new does = same_rules steps does.0 b does.1 new does.3 ∙ step_rules step a does.0 old does.1 does.2
 
   -- ---- the disk was honest before
 

@@ -34,7 +34,7 @@ use Rattle.serve_peers.specs.declared.step.Next.TheVariants.{Close}
 use Rattle.serve_peers.specs.declared.step.Turn.{Turn}
 use Rattle.serve_sockets.proofs.Answering.{answered_longer, none_there, places_from, stand_behind, turn_answered, turn_tells, was_answered, was_longer}
 use Rattle.serve_sockets.proofs.ByDoors.{visits_by}
-use Rattle.serve_sockets.proofs.Drives.{IsClean, IsServed, again_continues, as_served, like, same_pin, served_by, served_continues, serves_shares, step_clean, step_served, turn_continues}
+use Rattle.serve_sockets.proofs.Drives.{IsClean, IsServed, again_continues, as_served, like, same_rules, served_by, served_continues, serves_shares, step_clean, step_served, turn_continues}
 use Rattle.serve_sockets.proofs.VisitPlaces.{Grew, IsShared, Split, at_it, at_others, grew_by, grew_not, grew_then, grown_shared, left_shared, next_places, turned_shared}
 use Rattle.serve_sockets.proofs.Inquiring.{grown_alone, grown_by, journal_is, lives_on, runs_so}
 use Rattle.serve_sockets.specs.Places.{StandAt}
@@ -1573,7 +1573,7 @@ module _ {S : Type 0} (store : Ghosts S) where
           runs = runs_so store before fresh after served;
           lives = lives_on store before fresh after served;
           found = found_again store before fresh last lasts after served;
-          needs_password = same_pin store goes.steps goes.first guests before after goes.does;
+          page_rules = same_rules store goes.steps goes.first guests before after goes.does;
         },
         refl,
       )

@@ -11,7 +11,7 @@ use Rattle.rows_tables.specs.Calls.{IfOurTables}
 use Rattle.rows_tables.specs.Crashes.{IsOnDisk}
 use Rattle.room_serve.specs.Crashes.{IsFound}
 use Rattle.room_serve.specs.LivesInFiles.{IsLifeIn}
-use Rattle.serve_peers.specs.Journals.{Told, journal_of, needs_password_of, open_of, rounds_of, shares_of, store_of}
+use Rattle.serve_peers.specs.Journals.{Told, journal_of, page_rules_of, open_of, rounds_of, shares_of, store_of}
 use Rattle.serve_peers.specs.ServedRuns.{IsRunOf}
 use Rattle.serve_peers.specs.LinePeers.{lines_of}
 use Rattle.serve_peers.specs.Lines.{output_of}
@@ -119,7 +119,8 @@ module _ {S : Type 0} (store : Ghosts S) where
   -- but for who waited to hear of a round that is not in the journal. In each turn a question is
   -- answered by the journal as it stands then. Nobody is let go but in a step that may end its
   -- visit. Where no round is under way the tables are what the journal leaves, as one list of
-  -- events. A crash finds what the journal has. Whether pages take a file without a password stays.
+  -- events. A crash finds what the journal has. What the pages hold
+  -- requests to stays.
   pub record IsWhole (doors : List Speech) (guests : Slab Guest) (before after : Served S)
       : Type 0 where
     pub course : Course store guests before after
@@ -151,7 +152,7 @@ module _ {S : Type 0} (store : Ghosts S) where
         → IsRunOf store (journal_of after) (store_of before) (store_of after)
     pub lives : shares_of after ≡ false → LivesOn before after
     pub found : IsFoundAgain before after
-    pub needs_password : needs_password_of after ≡ needs_password_of before
+    pub page_rules : page_rules_of after ≡ page_rules_of before
 
   -- A hall served over these tables, which held what they may before it. It began with nobody in
   -- it, and nothing was asked before. All that it did is one whole, and the tables are what that left.

@@ -7,9 +7,10 @@ use Rattle.http_server.specs.declared.response.Response.{Response}
 use Rattle.http_uri.specs.Uri.{uri_path}
 use Rattle.sqlite_trees.specs.declared.store.Store.{Ghosts}
 use Rattle.std.specs.Prelude.{codes}
-use Rattle.serve_peers.specs.Journals.{shares_of}
+use Rattle.serve_peers.specs.Journals.{hosts_of, shares_of}
 use Rattle.serve_peers.specs.declared.served.Served.{Served}
-use Rattle.serve_web.specs.Answers.{AnswersIf, Gives}
+use Rattle.serve_web.specs.Answers.{AnswersAt, AnswersIf, Gives}
+use Rattle.serve_web.specs.Hosts.{is_answered}
 use Rattle.serve_web.specs.Laws.{ForeignFormsDoNothing, HasNoOrigin, WithoutOriginNothingIsApplied}
 use Rattle.input_http.specs.Origins.{is_foreign, is_own, is_told_own, value_in}
 use Rattle.serve_web.specs.Places.{place_of}
@@ -43,13 +44,18 @@ module _ (request : Request (List ℕ)) (foreign : is_foreign request ≡ true) 
 -- ---- so nothing is applied
 
 module _ {S : Type 0} (store : Ghosts S) where
-  by_shares : (shares : Bool) (old new : Served S) (request : Request (List ℕ)) (response : Response) → is_foreign request ≡ true →
-      AnswersIf store shares old request response new → new ≡ old
-  by_shares true old new request response foreign is = is.1
-  by_shares false old new request response foreign is =
+  by_host : (answered : Bool) (old new : Served S) (request : Request (List ℕ)) (response : Response) → is_foreign request ≡ true →
+      AnswersAt store answered old request response new → new ≡ old
+  by_host false old new request response foreign is = is.1
+  by_host true old new request response foreign is =
       let never = refused request foreign in
       let gives : Gives store (Err never.0) old request response new = subst (λ (wants : Result Asked Refusal). Gives store wants old request response new) never.1 is in
       gives.1
+
+  by_shares : (shares : Bool) (old new : Served S) (request : Request (List ℕ)) (response : Response) → is_foreign request ≡ true →
+      AnswersIf store shares old request response new → new ≡ old
+  by_shares true old new request response foreign is = is.1
+  by_shares false old new request response foreign is = by_host (is_answered (hosts_of old) request) old new request response foreign is
 
   pub foreign_forms_do_nothing : ForeignFormsDoNothing store
   foreign_forms_do_nothing old new request response foreign is = by_shares (shares_of old) old new request response foreign is

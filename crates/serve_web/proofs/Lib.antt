@@ -1,4 +1,5 @@
 pub mod FieldLists
 pub mod ForeignForms
+pub mod OtherHosts
 pub mod PageCalls
 mod PagePaths

@@ -19,7 +19,7 @@ use Rattle.store_rounds.specs.declared.fault.StoreFault.{StoreFault}
 use Rattle.page_overview.specs.Pages.{IsPage}
 use Rattle.page_overview.specs.declared.overview.Overview.{Overview}
 use Rattle.serve_peers.specs.Gathering.{asked_at, gathers}
-use Rattle.serve_peers.specs.Journals.{moment_of, needs_password_of, shares_of}
+use Rattle.serve_peers.specs.Journals.{hosts_of, moment_of, needs_password_of, shares_of}
 use Rattle.serve_peers.specs.Overviews.{gathered_of, shown_of, with_gathered}
 use Rattle.serve_peers.specs.Requests.{has_long_body}
 use Rattle.serve_peers.specs.Space.{spare_of}
@@ -29,6 +29,7 @@ use Rattle.serve_peers.specs.declared.served.Served.{Served}
 use Rattle.serve_web.specs.Fields.{page_fields, sheet_fields}
 use Rattle.input_lines.specs.OwnerRequests.{queue_uri}
 use Rattle.serve_web.specs.Messages.{IsFileMessage, lacks_password}
+use Rattle.serve_web.specs.Hosts.{is_answered}
 use Rattle.serve_web.specs.Questions.{question_of}
 use Rattle.serve_web.specs.Requests.{asked}
 use Rattle.serve_web.specs.Responses.{IsDone, IsLost, IsRefusal, IsShown}
@@ -37,7 +38,7 @@ use Rattle.serve_web.specs.declared.asked.Asked.{Asked}
 use Rattle.serve_web.specs.declared.asked.Asked.TheVariants.{Style, Script, Room, Owner, Statement, Act, Print}
 use Rattle.serve_web.specs.declared.pages.Pages.{Pages}
 use Rattle.page_pages.specs.declared.refusal.Refusal.{Refusal}
-use Rattle.page_pages.specs.declared.refusal.Refusal.TheVariants.{Busy, NoPassword, NoSpace}
+use Rattle.page_pages.specs.declared.refusal.Refusal.TheVariants.{Busy, Misdirected, NoPassword, NoSpace}
 
 -- ---- what asks nothing of the rooms
 
@@ -71,12 +72,13 @@ ShowsAnOverview _ closes response = ⊥
 
 -- ---- what has no place among all that is applied
 
--- nothing is asked in a round; else it is refused, or asks nothing of the rooms
+-- nothing is asked in a round, or by another Host; else it is refused, or asks nothing of the rooms
 abbrev pub IsStill : (wants : Result Asked Refusal) (request : Request (List ℕ))
     (response : Response) → Type 0
 IsStill wants request response = IsRefusal Busy (has_long_body request) response
+    ⊎ (IsRefusal Misdirected (has_long_body request) response
     ⊎ (IsRefusedOrStays wants (has_long_body request) response
-    ⊎ ShowsAnOverview wants (has_long_body request) response)
+    ⊎ ShowsAnOverview wants (has_long_body request) response))
 
 -- ---- the message that an act is, or a file
 
@@ -181,13 +183,21 @@ module _ {S : Type 0} (store : Ghosts S) where
   Gives (Err why) old request response new =
       Refuses why (has_long_body request) old response new
 
+  abbrev pub AnswersAt : (is_answered : Bool) (old : Served S) (request : Request (List ℕ))
+      (response : Response) (new : Served S) → Type 0
+  AnswersAt true old request response new = Gives (asked request) old request response new
+  AnswersAt false old request response new =
+      Refuses Misdirected (has_long_body request) old response new
+
   abbrev pub AnswersIf : (shares : Bool) (old : Served S) (request : Request (List ℕ))
       (response : Response) (new : Served S) → Type 0
   AnswersIf true old request response new =
       Refuses Busy (has_long_body request) old response new
-  AnswersIf false old request response new = Gives (asked request) old request response new
+  AnswersIf false old request response new =
+      AnswersAt (is_answered (hosts_of old) request) old request response new
 
-  -- The one response to a request, and the rooms after it. Within a round nothing is asked.
+  -- The one response to a request, and the rooms after it. Within a round nothing is asked, nor by a
+  -- Host that is not answered.
   abbrev pub Answers : (old : Served S) (request : Request (List ℕ)) (response : Response)
       (new : Served S) → Type 0
   Answers old request response new = AnswersIf (shares_of old) old request response new

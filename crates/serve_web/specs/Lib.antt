@@ -3,6 +3,7 @@ pub mod Numbers
 pub mod Words
 pub mod OutcomeQueries
 pub mod Places
+pub mod Hosts
 pub mod Refusals
 pub mod Queries
 pub mod Requests

@@ -13,7 +13,7 @@ use Rattle.serve_space.specs.Spares.{takes_of}
 use Rattle.serve_peers.proofs.GatheringKept.{gathered_only}
 use Rattle.serve_peers.proofs.Journaling.{looked}
 use Rattle.serve_peers.specs.Gathering.{asked_at, gathers}
-use Rattle.serve_peers.specs.Journals.{moment_of, needs_password_of, shares_of}
+use Rattle.serve_peers.specs.Journals.{hosts_of, moment_of, needs_password_of, shares_of}
 use Rattle.serve_peers.specs.Overviews.{gathered_of, shown_of, with_gathered}
 use Rattle.serve_peers.specs.ProofServices.{one_more}
 use Rattle.serve_peers.specs.Requests.{has_long_body}
@@ -21,10 +21,11 @@ use Rattle.serve_peers.specs.Space.{spare_of}
 use Rattle.serve_peers.specs.Turns.{Continues}
 use Rattle.serve_peers.specs.declared.gathering.Gathered.{Gathered}
 use Rattle.serve_peers.specs.declared.served.Served.{Served}
-use Rattle.serve_web.specs.Answers.{Answers, AnswersAsked, AnswersIf, AnswersPages, Applies, Gives, IsMessage, IsStill, PrintsIf, PrintsUnless, Shows, rooms_of}
+use Rattle.serve_web.specs.Answers.{Answers, AnswersAsked, AnswersAt, AnswersIf, AnswersPages, Applies, Gives, IsMessage, IsStill, PrintsIf, PrintsUnless, Shows, rooms_of}
 use Rattle.input_lines.specs.OwnerRequests.{queue_uri}
 use Rattle.serve_web.specs.Messages.{IsFileMessage, lacks_password}
 use Rattle.serve_web.specs.Questions.{question_of}
+use Rattle.serve_web.specs.Hosts.{is_answered}
 use Rattle.serve_web.specs.Requests.{asked}
 use Rattle.serve_web.specs.Outcomes.{page_act}
 use Rattle.serve_web.specs.declared.asked.Asked.{Asked}
@@ -65,7 +66,7 @@ module _ {S : Type 0} (store : Ghosts S) where
   file_comes : (lacks : Bool) (account : List ℕ) (copies : ℕ) (pages : Option ℕ) (message : List ℕ) (old : Served S) (request : Request (List ℕ)) (response : Response) (new : Served S) → IsFileMessage account request copies pages message →
       PrintsIf store lacks account message (has_long_body request) old response new
       → Comes (Ok (asked_is.Print account copies pages)) old request response new
-  file_comes true account copies pages message old request response new file is = inr (inr (inr (inl (inr is.0)), same_gathered old new is.1))
+  file_comes true account copies pages message old request response new file is = inr (inr (inr (inr (inl (inr is.0))), same_gathered old new is.1))
   file_comes false account copies pages message old request response new file is = inl (record {
     asks = asked_is.Print account copies pages;
     wanted = refl;
@@ -79,13 +80,13 @@ module _ {S : Type 0} (store : Ghosts S) where
 
   print_comes : (lacks : Bool) (account : List ℕ) (copies : ℕ) (pages : Option ℕ) (old : Served S) (request : Request (List ℕ)) (response : Response) (new : Served S) →
       PrintsUnless store lacks account copies pages old request response new → Comes (Ok (asked_is.Print account copies pages)) old request response new
-  print_comes true account copies pages old request response new is = inr (inr (inr (inl (inl is.0)), same_gathered old new is.1))
+  print_comes true account copies pages old request response new is = inr (inr (inr (inr (inl (inl is.0))), same_gathered old new is.1))
   print_comes false account copies pages old request response new is = file_comes (nat_lt (takes_of (spare_of old)) (length is.0)) account copies pages is.0 old request response new is.1 is.2
 
   asked_comes : (what : Asked) (old : Served S) (request : Request (List ℕ)) (response : Response) (new : Served S) → AnswersAsked store what old request response new → Comes (Ok what) old request response new
-  asked_comes asked_is.Style old request response new is = inr (inr (inr (inl is.0), same_gathered old new is.1))
-  asked_comes asked_is.Script old request response new is = inr (inr (inr (inl is.0), same_gathered old new is.1))
-  asked_comes (asked_is.Room front behind) old request response new is = inr (inr (inr (inr (shown_of old, gathers (gathered_of old), is.0)), (asked_at (moment_of old) (gathered_of old), is.1)))
+  asked_comes asked_is.Style old request response new is = inr (inr (inr (inr (inl is.0)), same_gathered old new is.1))
+  asked_comes asked_is.Script old request response new is = inr (inr (inr (inr (inl is.0)), same_gathered old new is.1))
+  asked_comes (asked_is.Room front behind) old request response new is = inr (inr (inr (inr (inr (shown_of old, gathers (gathered_of old), is.0))), (asked_at (moment_of old) (gathered_of old), is.1)))
   asked_comes (asked_is.Owner account came still) old request response new is = inr (inl (record { asks = asked_is.Owner account came still; wanted = refl; shows = is }))
   asked_comes (asked_is.Statement account month) old request response new is = inr (inl (record { asks = asked_is.Statement account month; wanted = refl; shows = is }))
   asked_comes (asked_is.Act account act job) old request response new is = inl (record {
@@ -102,12 +103,17 @@ module _ {S : Type 0} (store : Ghosts S) where
 
   given_comes : (wants : Result Asked Refusal) (old : Served S) (request : Request (List ℕ)) (response : Response) (new : Served S) → Gives store wants old request response new → Comes wants old request response new
   given_comes (Ok what) old request response new is = asked_comes what old request response new is
-  given_comes (Err why) old request response new is = inr (inr (inr (inl is.0), same_gathered old new is.1))
+  given_comes (Err why) old request response new is = inr (inr (inr (inr (inl is.0)), same_gathered old new is.1))
+
+  comes_at : (answered : Bool) (old : Served S) (request : Request (List ℕ)) (response : Response) (new : Served S) →
+      AnswersAt store answered old request response new → Comes (asked request) old request response new
+  comes_at true old request response new is = given_comes (asked request) old request response new is
+  comes_at false old request response new is = inr (inr (inr (inl is.0), same_gathered old new is.1))
 
   answer_comes : (shares : Bool) (old : Served S) (request : Request (List ℕ)) (response : Response) (new : Served S) →
       AnswersIf store shares old request response new → Comes (asked request) old request response new
   answer_comes true old request response new is = inr (inr (inl is.0, same_gathered old new is.1))
-  answer_comes false old request response new is = given_comes (asked request) old request response new is
+  answer_comes false old request response new is = comes_at (is_answered (hosts_of old) request) old request response new is
 
   pub comes : (old : Served S) (request : Request (List ℕ)) (response : Response) (new : Served S) → Answers store old request response new → Comes (asked request) old request response new
   comes old request response new is = answer_comes (shares_of old) old request response new is

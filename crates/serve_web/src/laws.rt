@@ -1,5 +1,6 @@
-//! Laws: a form that another site may have sent does nothing; and which path leads where.
-ghost use Rattle.serve_web.specs.Laws.{ForeignFormsDoNothing, WithoutOriginNothingIsApplied};
+//! Laws: a form that another site may have sent does nothing, and a Host that is not answered is told
+//! nothing; and which path leads where.
+ghost use Rattle.serve_web.specs.Laws.{ForeignFormsDoNothing, OtherHostsAreRefused, WithoutOriginNothingIsApplied};
 ghost use Rattle.serve_web.specs.PagePaths.{AsksByItsPath, PathsAreSpelled, PathsLead};
 
 use sqlite::Alter;
@@ -14,6 +15,12 @@ pub fn foreign_forms_do_nothing<S: Alter>()
 /// it.
 pub fn without_origin_nothing_is_applied<S: Alter>()
     ensures { WithoutOriginNothingIsApplied S.Store }
+{}
+
+/// A request of a Host that is not answered is refused, whatever it asks for: nothing of the rooms is
+/// shown, and they stay as they were.
+pub fn other_hosts_are_refused<S: Alter>()
+    ensures { OtherHostsAreRefused S.Store }
 {}
 
 /// A path of a browser leads where its bytes say, and whatever is spelled so leads there. A request

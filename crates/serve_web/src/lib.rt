@@ -1,12 +1,13 @@
 //! What a browser asks over HTTP: the pages of accounts and of the print room, acts on jobs and
 //! files that are to be printed, each of which is one message of IPP. A form that another site may
-//! have sent does nothing.
+//! have sent does nothing, and a Host that is not answered is told nothing.
 #![tactic(auto)]
 
 mod answer;
 mod asked;
 mod digits;
 mod fields;
+mod host;
 mod laws;
 mod message;
 mod outcome;
@@ -20,5 +21,8 @@ mod replaced;
 mod turn;
 mod word;
 
-pub use laws::{foreign_forms_do_nothing, pages_are_by_path, without_origin_nothing_is_applied};
+pub use laws::{
+    foreign_forms_do_nothing, other_hosts_are_refused, pages_are_by_path,
+    without_origin_nothing_is_applied,
+};
 pub use turn::drive_browser;

@@ -11,6 +11,7 @@ ghost use Rattle.serve_web.specs.ProofPages.{pages_continue};
 use crate::answer::{put_sheet, refuse, shared, show, tell};
 use crate::asked::{Asked, asked_by};
 use crate::fields::put_page_fields;
+use crate::host::is_answered;
 use crate::message::{act_message, file_message, lacks_password};
 use crate::outcome::page_act;
 use crate::questions::question_of;
@@ -55,7 +56,8 @@ impl<S: Alter> RoomService for Pages<'_, S> {
     ghost continues = { pages_continue _ };
 }
 
-/// Answers a request of a browser. While requests share a commit it is refused, to be asked again.
+/// Answers a request of a browser. While requests share a commit it is refused, to be asked again,
+/// and so is one of a Host that is not answered.
 fn answer<S: Alter>(
     served: &mut Served<S>,
     request: &Request<Bytes>,
@@ -67,6 +69,9 @@ fn answer<S: Alter>(
 {
     if served.is_shared() {
         return refuse(response, Refusal::Busy, has_long_body(request));
+    }
+    if !is_answered(served.hosts(), request) {
+        return refuse_and_log(served, Refusal::Misdirected, request, response);
     }
     match asked_by(request) {
         Ok(asked) => answer_asked(served, &asked, request, response),

@@ -11,6 +11,7 @@ pub(crate) fn status_of(refusal: Refusal) -> StatusCode
 {
     match refusal {
         Refusal::BadRequest => StatusCode::BAD_REQUEST,
+        Refusal::Misdirected => StatusCode::MISDIRECTED_REQUEST,
         Refusal::Forbidden => StatusCode::FORBIDDEN,
         Refusal::NotFound => StatusCode::NOT_FOUND,
         Refusal::OnlyRead => StatusCode::METHOD_NOT_ALLOWED,
