@@ -183,7 +183,7 @@ module _ {S : Type 0} (store : Ghosts S) where
   Gives (Err why) old request response new =
       Refuses why (has_long_body request) old response new
 
-  abbrev pub AnswersAt : (is_answered : Bool) (old : Served S) (request : Request (List ℕ))
+  abbrev pub AnswersAt : (answered : Bool) (old : Served S) (request : Request (List ℕ))
       (response : Response) (new : Served S) → Type 0
   AnswersAt true old request response new = Gives (asked request) old request response new
   AnswersAt false old request response new =
