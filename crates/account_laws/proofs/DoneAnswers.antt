@@ -78,7 +78,7 @@ act_errs act (Some job) = move_errs (act job) job.standing
 
 -- ---- a job that has just changed
 
-put_there : {X : Type 0} (m : FinMap nat_cmp X) (n : ℕ) (x : X) → get (insert m n x) n ≡ Some x
+pub put_there : {X : Type 0} (m : FinMap nat_cmp X) (n : ℕ) (x : X) → get (insert m n x) n ≡ Some x
 put_there m n x = inserted m n x n ∙ ap (λ (b : Bool). cond b (Some x) (get m n)) (eq-eqb n n refl)
 
 -- where both are there, they are as told

@@ -27,7 +27,7 @@ unfolding message_of
 no_message body short =
     ap (λ (b : Bool). cond b None (Some (header_in body)) >>= λ (header : Header). groups_at (drop header_length body) >>= λ (groups : List PlainGroup × List ℕ). payload_at groups.1 >>= λ (payload : List ℕ). Some (record { header = header; groups = groups.0; payload = payload })) short
 
-is_long : (account body : List ℕ) (ask : PlainAsk) → ask_of account body ≡ Ok ask → nat_lt (length body) header_length ≡ false
+pub is_long : (account body : List ℕ) (ask : PlainAsk) → ask_of account body ≡ Ok ask → nat_lt (length body) header_length ≡ false
 unfolding ask_of
 is_long account body ask asks = by (nat_lt (length body) header_length) refl
   where

@@ -5,13 +5,15 @@ use Rattle.account_laws.proofs.ToldLists.{length_changed, told_changed}
 use Rattle.account_rules.specs.Effects.{is_incomplete}
 use Rattle.account_rules.specs.declared.job.Job.{Job}
 use Rattle.page_markup.specs.Parts.{html}
-use Rattle.page_pages.specs.Devices.{devices_on}
+use Rattle.page_pages.specs.Devices.{all_devices}
 use Rattle.page_pages.specs.Ended.{device_or_none, ended_card, ended_counts, ended_job, ended_name, table_of_ended}
 use Rattle.page_pages.specs.Forms.{print_form}
-use Rattle.page_pages.specs.Owners.{content, lists, owner_document, owner_end, owner_page, owner_start, reload_if}
-use Rattle.page_pages.specs.Phases.{phase_in, phase_of, printing_phase, sentence, sign, word}
+use Rattle.page_pages.specs.Offers.{offer}
+use Rattle.page_pages.specs.Owners.{content, lists, owner_document, owner_end, owner_page, owner_start, reload_if, terms_of}
+use Rattle.page_pages.specs.Phases.{phase_in, phase_of, printing_phase, sign, word}
 use Rattle.page_pages.specs.Statements.{job_if_then, is_then, statement_count, statement_jobs, statement_page, statement_start}
-use Rattle.page_pages.specs.Waiting.{device_words, job_acts, job_counts, job_name, job_row, job_state, table_of_waiting, waiting_card}
+use Rattle.page_pages.specs.Waiting.{buttons, job_cells, job_form, job_row, table_of_waiting, waiting_card}
+use Rattle.page_pages.specs.declared.offer.Terms.{Terms}
 use Rattle.page_pages.specs.declared.owner.Owner.{Owner}
 use Rattle.page_pages.specs.declared.phase.Phase.{Phase}
 use Rattle.page_pages.specs.declared.phase.Phase.TheVariants.{Incomplete, Locked, Uncounted, Ready}
@@ -25,15 +27,11 @@ phase_hidden job =
     (λ (locked : Bool). phase_in job.standing.state (cond (is_incomplete job.standing) Incomplete (cond locked Locked (cond (job.standing.impressions == 0) Uncounted Ready))) (printing_phase job.standing.stopping))
     (still_secret job.password)
 
-row_hidden : (account : List ℕ) (job : Job) → job_row account (hidden job) ≡ job_row account job
-unfolding job_row
-row_hidden account job =
+row_hidden : (account : List ℕ) (terms : Terms) (job : Job) → job_row account terms (hidden job) ≡ job_row account terms job
+unfolding job_row job_cells
+row_hidden account terms job =
     ap
-    (λ (phase : Phase).
-    html (job_name job.job job.name)
-    ++ (html (job_state (sign phase) (word phase) (sentence phase))
-    ++ (html (job_counts (device_words phase job.standing.device) job.standing.impressions job.standing.copies job.standing.documents job.standing.created)
-    ++ job_acts account phase job.job)))
+    (λ (phase : Phase). job_cells phase terms job ++ job_form account job.job (buttons phase (offer terms.left job.standing) job.job))
     (phase_hidden job)
 
 ended_hidden : (job : Job) → ended_job (hidden job) ≡ ended_job job
@@ -57,12 +55,12 @@ of_rows none columns foot rows others n m so_many same = λ i. cond (so_many i =
 
 -- ---- a table
 
-waiting_table : (account : List ℕ) (jobs : List Job) → table_of_waiting account (map hidden jobs) ≡ table_of_waiting account jobs
-waiting_table account jobs = of_rows _ _ _ _ _ _ _ (length_changed hidden jobs) (told_changed hidden (job_row account) (job_row account) (row_hidden account) jobs)
+waiting_table : (account : List ℕ) (terms : Terms) (jobs : List Job) → table_of_waiting account terms (map hidden jobs) ≡ table_of_waiting account terms jobs
+waiting_table account terms jobs = of_rows _ _ _ _ _ _ _ (length_changed hidden jobs) (told_changed hidden (job_row account terms) (job_row account terms) (row_hidden account terms) jobs)
 
-waiting_hidden : (account : List ℕ) (jobs : List Job) → waiting_card account (map hidden jobs) ≡ waiting_card account jobs
+waiting_hidden : (account : List ℕ) (terms : Terms) (jobs : List Job) → waiting_card account terms (map hidden jobs) ≡ waiting_card account terms jobs
 unfolding waiting_card
-waiting_hidden account jobs = within _ _ _ _ (waiting_table account jobs)
+waiting_hidden account terms jobs = within _ _ _ _ (waiting_table account terms jobs)
 
 ended_table : (jobs : List Job) → table_of_ended (map hidden jobs) ≡ table_of_ended jobs
 ended_table jobs = of_rows _ _ _ _ _ _ _ (length_changed hidden jobs) (told_changed hidden ended_job ended_job ended_hidden jobs)
@@ -93,9 +91,9 @@ module _ (owner : Owner) (waiting ended : List Job) where
   lists_hidden : lists (owner_with owner (map hidden waiting) (map hidden ended)) ≡ lists (owner_with owner waiting ended)
   unfolding lists
   lists_hidden =
-      let first = waiting_hidden owner.account waiting in
+      let first = waiting_hidden owner.account (terms_of owner) waiting in
       let last = ended_card_hidden ended in
-      λ i. first i ++ (print_form owner.account owner.needs_password ++ (devices_on owner.devices ++ last i))
+      λ i. first i ++ (print_form owner.account owner.needs_password ++ (all_devices owner.devices ++ last i))
 
   end_hidden : owner_end (owner_with owner (map hidden waiting) (map hidden ended)) ≡ owner_end (owner_with owner waiting ended)
   unfolding owner_end

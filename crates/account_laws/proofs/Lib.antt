@@ -87,6 +87,7 @@ pub mod EscapedNames
 pub mod JobLinesTold
 pub mod StatementsTold
 pub mod AgainTold
+pub mod OfferedReleases
 pub mod PagesTold
 pub mod ReturnedAttributes
 pub mod DocumentPlaces

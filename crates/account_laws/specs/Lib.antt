@@ -57,6 +57,7 @@ pub mod LimitsTold
 pub mod LinesTold
 pub mod JobLinesTold
 pub mod StatementsTold
+pub mod OfferedReleases
 pub mod AgainTold
 pub mod PagesTold
 pub mod ReturnedAttributes

@@ -24,7 +24,7 @@ pub use printing::{
     done_stays, handed_again, handed_as_sent, handed_by_leave, handed_once, its_own_job_only,
     passwords_stay_secret,
 };
-pub use questions::{pages_tell_the_life, questions_tell_the_life};
+pub use questions::{pages_tell_the_life, questions_tell_the_life, releases_are_offered};
 pub use quota_account::{accounts_balance, releases_owe_nothing, settlements_charge};
 pub use refusals::{refusals_are_coded, refusals_mean, refusals_send_back, requests_are_done};
 pub use replies::answers_are_spelled;

@@ -5,6 +5,7 @@ ghost use Rattle.account_laws.specs.AgainTold.{AgainIsTold};
 ghost use Rattle.account_laws.specs.EachQuestion.{EachQuestionIsTold};
 ghost use Rattle.account_laws.specs.JobLinesTold.{EndedAreTold, JobsAreTold, WaitingIsTold};
 ghost use Rattle.account_laws.specs.LinesTold.{AccountsAreListed, DevicesAreTold, GrantsAreTold, LeftIsTold, OthersAreTold};
+ghost use Rattle.account_laws.specs.OfferedReleases.{ReleasesAreOffered};
 ghost use Rattle.account_laws.specs.PagesTold.{OwnerPagesAreTold, StatementPagesAreTold};
 ghost use Rattle.account_laws.specs.QuestionsTold.{QuestionsTellTheLife};
 ghost use Rattle.account_laws.specs.StatementsTold.{StatementsAreTold};
@@ -35,4 +36,11 @@ pub fn questions_tell_the_life()
 pub fn pages_tell_the_life()
     ensures owner { OwnerPagesAreTold }
     ensures statement { StatementPagesAreTold }
+{}
+
+/// Law: your page offers the release of a job exactly where that would be done at the same moment,
+/// for the units that the job then reserves.
+#[tactic(auto, using(crate::proofs::OfferedReleases::releases_are_offered))]
+pub fn releases_are_offered()
+    ensures { ReleasesAreOffered }
 {}

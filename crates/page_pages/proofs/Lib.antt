@@ -1,1 +1,2 @@
 pub mod TagLemmas
+pub mod Buttons

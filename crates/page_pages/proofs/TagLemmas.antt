@@ -11,7 +11,10 @@ use Rattle.page_markup.specs.Escaping.{escaped}
 use Rattle.page_markup.specs.Laws.{IsMarkup}
 use Rattle.page_markup.specs.Parts.{Part, Mark, Text, Number, Known, Moment, Ending, Month, MonthNumber, html, shown}
 use Rattle.page_pages.specs.Tags.{NamesAreNoTags, kept, named, tags, inside_after}
-use Rattle.page_pages.specs.Waiting.{job_name, job_row}
+use Rattle.page_pages.specs.Phases.{phase_of}
+use Rattle.page_pages.specs.Waiting.{job_cells, job_name, job_row, name_words}
+use Rattle.page_pages.specs.declared.offer.Terms.{Terms}
+use Rattle.page_pages.specs.declared.phase.Phase.{Phase}
 use Rattle.page_markup.proofs.Escapes.{clean_text}
 
 -- ---- where a reader stands
@@ -149,13 +152,21 @@ unfolding job_name
 name_between number name rest low =
     text_between (take 7 (job_name number [])) (drop 8 (job_name number [])) name rest (tt, (tt, (tt, (small number low, (tt, (small number low, (tt, tt))))))) refl
 
-row_tags : (account name rest : List ℕ) (job : Job) → job.job ≤ last_job
-    → tags false (job_row account (named name job) ++ rest) ≡ tags false (job_row account (named [] job) ++ rest)
+cells_tags : (phase : Phase) (name rest : List ℕ) (terms : Terms) (job : Job) → job.job ≤ last_job
+    → tags false (job_cells phase terms (named name job) ++ rest) ≡ tags false (job_cells phase terms (named [] job) ++ rest)
+unfolding job_cells
+cells_tags phase name rest terms job low =
+    ap (tags false) (append_assoc (html (job_name job.job (name_words name))) _ rest)
+    ∙ (name_between job.job (name_words name) _ low
+    ∙ (sym (name_between job.job (name_words []) _ low) ∙ sym (ap (tags false) (append_assoc (html (job_name job.job (name_words []))) _ rest))))
+
+row_tags : (account name rest : List ℕ) (terms : Terms) (job : Job) → job.job ≤ last_job
+    → tags false (job_row account terms (named name job) ++ rest) ≡ tags false (job_row account terms (named [] job) ++ rest)
 unfolding job_row
-row_tags account name rest job low =
-    ap (tags false) (append_assoc (html (job_name job.job name)) _ rest)
-    ∙ (name_between job.job name _ low
-    ∙ (sym (name_between job.job [] _ low) ∙ sym (ap (tags false) (append_assoc (html (job_name job.job [])) _ rest))))
+row_tags account name rest terms job low =
+    ap (tags false) (append_assoc (job_cells (phase_of job) terms (named name job)) _ rest)
+    ∙ (cells_tags (phase_of job) name _ terms job low
+    ∙ sym (ap (tags false) (append_assoc (job_cells (phase_of job) terms (named [] job)) _ rest)))
 
 ended_between : (number : ℕ) (name symbol state rest : List ℕ) → number ≤ last_job
     → tags false (html (ended_name number name symbol state) ++ rest) ≡ tags false (html (take 5 (ended_name number [] symbol state))) ++ tags false (html (drop 6 (ended_name number [] symbol state)) ++ rest)
@@ -173,6 +184,6 @@ ended_tags name rest job low =
 
 pub names_are_no_tags : NamesAreNoTags
 names_are_no_tags = record {
-  of_waiting = λ account name other rest job low. row_tags account name rest job low ∙ sym (row_tags account other rest job low);
+  of_waiting = λ account name other rest terms job low. row_tags account name rest terms job low ∙ sym (row_tags account other rest terms job low);
   of_ended = λ name other rest job low. ended_tags name rest job low ∙ sym (ended_tags other rest job low);
 }

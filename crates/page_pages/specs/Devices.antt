@@ -1,5 +1,5 @@
 -- Rule: The devices, and what a page costs on each.
-use Rattle.std.specs.Prelude.{ℕ, Bool, true, false, if◌then◌else◌, List, [], ◌∷◌, ◌++◌, codes, flat_map}
+use Rattle.std.specs.Prelude.{ℕ, Bool, true, false, ◌==◌, if◌then◌else◌, length, List, [], ◌∷◌, ◌++◌, codes, flat_map}
 use Rattle.std.specs.List.{list_any}
 use Rattle.account_rules.specs.declared.device.Device.{Device}
 use Rattle.page_pages.specs.Frames.{card, remark}
@@ -45,23 +45,18 @@ device_row it = html
 abbrev pub is_on : Device → Bool
 is_on it = it.on
 
-abbrev pub device_if_on : Device → List ℕ
-device_if_on it = if it.on then device_row it else []
+-- that none is on
+abbrev pub words_of_none : List Device → List ℕ
+words_of_none devices =
+    if list_any is_on devices then [] else html (remark NO_DEVICES.now)
 
--- an operator sees those too that are off
+-- those too that are off
+abbrev pub list_if_any : List Device → List ℕ
+list_if_any devices =
+    if length devices == 0 then []
+    else LIST_OF_DEVICES.now ++ (flat_map device_row devices ++ END_OF_LIST.now)
+
 unfoldable pub all_devices : List Device → List ℕ
 all_devices devices =
     html (card (codes "devices") DEVICES.now)
-    ++ (LIST_OF_DEVICES.now
-    ++ (flat_map device_row devices ++ (END_OF_LIST.now ++ END_OF_CARD.now)))
-
--- those that are on, or that there is none
-abbrev pub list_of_devices : List Device → List ℕ
-list_of_devices devices =
-    if list_any is_on devices
-    then LIST_OF_DEVICES.now ++ (flat_map device_if_on devices ++ END_OF_LIST.now)
-    else html (remark NO_DEVICES.now)
-
-unfoldable pub devices_on : List Device → List ℕ
-devices_on devices =
-    html (card (codes "devices") DEVICES.now) ++ (list_of_devices devices ++ END_OF_CARD.now)
+    ++ (words_of_none devices ++ (list_if_any devices ++ END_OF_CARD.now))

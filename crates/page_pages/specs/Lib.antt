@@ -8,6 +8,7 @@ pub mod Ended
 pub mod Forms
 pub mod Frames
 pub mod Longest
+pub mod Offers
 pub mod Outcomes
 pub mod Owners
 pub mod PasswordLaws

@@ -1,14 +1,17 @@
 -- Rule: The page of an account's owner: what is left, what waits and ended, the form to print.
-use Rattle.std.specs.Prelude.{ℕ, Bool, true, false, ◌&&◌, not, ◌==◌, if◌then◌else◌, length, List, [], ◌∷◌, ◌++◌, codes}
+use Rattle.std.specs.Prelude.{ℕ, Bool, true, false, ◌&&◌, not, ◌==◌, if◌then◌else◌, length, List, [], ◌∷◌, ◌++◌, codes, pos}
 use Rattle.page_pages.specs.Balances.{balance}
-use Rattle.page_pages.specs.Devices.{devices_on}
+use Rattle.account_rules.specs.Quota.{left_of}
+use Rattle.page_pages.specs.Devices.{all_devices}
 use Rattle.page_pages.specs.Ended.{ended_card}
 use Rattle.page_pages.specs.Forms.{print_form}
 use Rattle.page_pages.specs.Frames.{document, foot, reload, top}
+use Rattle.page_pages.specs.Offers.{cheapest, dearest}
 use Rattle.page_pages.specs.Outcomes.{outcome_if_any}
 use Rattle.page_markup.specs.Parts.{Part, html, Mark, Text, Month, MonthNumber}
 use Rattle.page_pages.specs.Waiting.{waiting_card}
 use Rattle.page_pages.specs.declared.markup.TheConstants.{END_OF_PAGE, PAGE_SCRIPT}
+use Rattle.page_pages.specs.declared.offer.Terms.{Terms}
 use Rattle.page_pages.specs.declared.owner.Owner.{Owner}
 use Rattle.page_pages.specs.declared.texts.TheConstants.{ACCOUNT, PRINT_ROOM, RELOADS, START_RELOADING, STATEMENT_FOR, STAYS, STOP_RELOADING}
 
@@ -80,11 +83,19 @@ content owner =
     ++ (html (account_title owner.account owner.month)
     ++ balance owner.granted owner.reserved owner.charged)
 
+-- what prices and offers hang on
+abbrev pub terms_of : Owner → Terms
+terms_of owner = record {
+  left = left_of (pos owner.granted) (pos owner.reserved) (pos owner.charged);
+  cheapest = cheapest owner.devices;
+  dearest = dearest owner.devices;
+}
+
 unfoldable pub lists : Owner → List ℕ
 lists owner =
-    waiting_card owner.account owner.waiting
+    waiting_card owner.account (terms_of owner) owner.waiting
     ++ (print_form owner.account owner.needs_password
-    ++ (devices_on owner.devices ++ ended_card owner.ended))
+    ++ (all_devices owner.devices ++ ended_card owner.ended))
 
 unfoldable pub owner_end : Owner → List ℕ
 owner_end owner = html foot ++ (reload_words owner ++ END_OF_PAGE.now)

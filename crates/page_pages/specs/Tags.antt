@@ -4,6 +4,7 @@ use Rattle.account_rules.specs.Limits.{last_job}
 use Rattle.account_rules.specs.declared.job.Job.{Job}
 use Rattle.page_pages.specs.Ended.{ended_job}
 use Rattle.page_pages.specs.Waiting.{job_row}
+use Rattle.page_pages.specs.declared.offer.Terms.{Terms}
 
 -- a tag goes from a < to the next >
 abbrev pub kept : (inside : Bool) (byte : ℕ) → List ℕ
@@ -23,9 +24,10 @@ named name job = record job { name = name }
 
 -- the tags of a job's row are the same whatever its name is, before any rest of a page
 pub record NamesAreNoTags : Type 0 where
-  pub of_waiting : (account name other rest : List ℕ) (job : Job) → job.job ≤ last_job
-      → tags false (job_row account (named name job) ++ rest)
-      ≡ tags false (job_row account (named other job) ++ rest)
+  pub of_waiting : (account name other rest : List ℕ) (terms : Terms) (job : Job)
+      → job.job ≤ last_job
+      → tags false (job_row account terms (named name job) ++ rest)
+      ≡ tags false (job_row account terms (named other job) ++ rest)
   pub of_ended : (name other rest : List ℕ) (job : Job) → job.job ≤ last_job
       → tags false (ended_job (named name job) ++ rest)
       ≡ tags false (ended_job (named other job) ++ rest)

@@ -1,15 +1,23 @@
 -- Rule: The card of the jobs that wait, with what their owner may do with them.
 use Rattle.std.specs.Prelude.{ℕ, ◌==◌, if◌then◌else◌, length, List, [], ◌∷◌, ◌++◌, Option, Some, None, codes, flat_map}
 use Rattle.account_rules.specs.declared.job.Job.{Job}
+use Rattle.account_rules.specs.declared.job.Standing.{Standing}
 use Rattle.page_pages.specs.Frames.{card, remark}
 use Rattle.page_markup.specs.Parts.{Part, html, Mark, Text, Number, Known, Moment}
-use Rattle.page_pages.specs.Phases.{phase_of, sentence, sign, word}
-use Rattle.page_pages.specs.declared.markup.TheConstants.{END_OF_ACTS, END_OF_CARD, END_OF_TABLE, FIRST_ACT}
+use Rattle.page_pages.specs.Offers.{advice, offer, price_cell, why}
+use Rattle.page_pages.specs.Phases.{phase_of, sign, word}
+use Rattle.page_pages.specs.declared.markup.TheConstants.{END_OF_ACTS, END_OF_CARD, END_OF_STATE, END_OF_TABLE, FIRST_ACT}
+use Rattle.page_pages.specs.declared.offer.Terms.{Terms}
 use Rattle.page_pages.specs.declared.phase.Phase.{Phase}
 use Rattle.page_pages.specs.declared.phase.Phase.TheVariants.{Incomplete, Locked, Uncounted, Ready, Released, Printing, Stopping, Printed, Canceled, Failed}
-use Rattle.page_pages.specs.declared.texts.TheConstants.{ACTS, ANY_DEVICE, CANCEL, COPIES, DEVICE, FILES, HOLD, JOB, MADE, NOTHING_WAITS, NO_DEVICE_YET, NUMBER, PAGES, RELEASE, STATE, WAITING}
+use Rattle.page_pages.specs.declared.texts.TheConstants.{ACTS, ANY_DEVICE, CANCEL, COPIES, DEVICE, FILES, HOLD, JOB, MADE, NOTHING_WAITS, NO_DEVICE_YET, NO_NAME, NUMBER, PAGES, RELEASE_FOR, STATE, UNITS_NEEDED_BY_JOB, WAITING}
 
 -- ---- a job
+
+-- one that was given no name is told so
+abbrev pub name_words : (name : List ℕ) → List ℕ
+name_words [] = NO_NAME.now
+name_words (byte ∷ more) = byte ∷ more
 
 -- the number and the name of a job
 unfoldable pub job_name : (number : ℕ) (name : List ℕ) → List Part
@@ -25,7 +33,7 @@ job_name number name =
     ∷ Mark (codes "</bdi></th>\n")
     ∷ []
 
--- how a job stands
+-- how a job stands. What helps may follow
 unfoldable pub job_state : (symbol state why : List ℕ) → List Part
 job_state symbol state why =
     Mark (codes "<td><span class=\"state\"><svg class=\"sign\" aria-hidden=\"true\"><use ")
@@ -35,7 +43,6 @@ job_state symbol state why =
     ∷ Mark state
     ∷ Mark (codes "</span><small>")
     ∷ Mark why
-    ∷ Mark (codes "</small></td>\n")
     ∷ []
 
 -- where a job may be printed, how much it is, and when it was made
@@ -105,41 +112,69 @@ cancel_button number = html (button [] (codes "cancel") CANCEL.now number)
 unfoldable pub hold_buttons : (number : ℕ) → List ℕ
 hold_buttons number = html (button [] (codes "hold") HOLD.now number) ++ cancel_button number
 
-unfoldable pub release_buttons : (number : ℕ) → List ℕ
-release_buttons number =
-    html (button FIRST_ACT.now (codes "release") RELEASE.now number)
-    ++ cancel_button number
+-- the release of a job, for so many units
+unfoldable pub release_button : (units number : ℕ) → List Part
+release_button units number =
+    Mark (codes "<button")
+    ∷ Mark FIRST_ACT.now
+    ∷ Mark (codes " name=\"act\" value=\"release\" aria-describedby=\"job-")
+    ∷ Number number
+    ∷ Mark (codes "\">")
+    ∷ Mark RELEASE_FOR.now
+    ∷ Number units
+    ∷ Mark (codes "</button>")
+    ∷ []
+
+unfoldable pub release_buttons : (units number : ℕ) → List ℕ
+release_buttons units number = html (release_button units number) ++ cancel_button number
+
+abbrev pub ready_buttons : (offered : Option ℕ) → (number : ℕ) → List ℕ
+ready_buttons None number = cancel_button number
+ready_buttons (Some units) number = release_buttons units number
 
 -- one for each act that is not refused for certain
-abbrev pub buttons : Phase → (number : ℕ) → List ℕ
-buttons Incomplete number = cancel_button number
-buttons Locked number = cancel_button number
-buttons Uncounted number = cancel_button number
-buttons Ready number = release_buttons number
-buttons Released number = hold_buttons number
-buttons Printing number = cancel_button number
-buttons Stopping number = []
-buttons Printed number = []
-buttons Canceled number = []
-buttons Failed number = []
+abbrev pub buttons : Phase → (offered : Option ℕ) → (number : ℕ) → List ℕ
+buttons Incomplete offered number = cancel_button number
+buttons Locked offered number = cancel_button number
+buttons Uncounted offered number = cancel_button number
+buttons Ready offered number = ready_buttons offered number
+buttons Released offered number = hold_buttons number
+buttons Printing offered number = cancel_button number
+buttons Stopping offered number = []
+buttons Printed offered number = []
+buttons Canceled offered number = []
+buttons Failed offered number = []
 
-unfoldable pub job_acts : (account : List ℕ) → Phase → (number : ℕ) → List ℕ
-job_acts account phase number =
-    html (acts_start account number) ++ (buttons phase number ++ END_OF_ACTS.now)
+-- a job's form with these buttons, which ends its row
+unfoldable pub job_form : (account : List ℕ) (number : ℕ) (buttons : List ℕ) → List ℕ
+job_form account number buttons =
+    html (acts_start account number) ++ (buttons ++ END_OF_ACTS.now)
+
+abbrev pub job_acts : (account : List ℕ) → Terms → Job → List ℕ
+job_acts account terms it =
+    job_form account it.job (buttons (phase_of it) (offer terms.left it.standing) it.job)
 
 -- ---- the table
 
-unfoldable pub job_row : (account : List ℕ) → Job → List ℕ
-job_row account it =
-    html (job_name it.job it.name)
-    ++ (html (job_state (sign (phase_of it)) (word (phase_of it)) (sentence (phase_of it)))
-    ++ (html (job_counts
-    (device_words (phase_of it) it.standing.device)
-    it.standing.impressions
-    it.standing.copies
-    it.standing.documents
-    it.standing.created)
-    ++ job_acts account (phase_of it) it.job))
+-- how it stands, and what helps
+unfoldable pub state_cell : Phase → Terms → Standing → List ℕ
+state_cell phase terms s =
+    html (job_state (sign phase) (word phase) (why phase terms s))
+    ++ (advice phase terms s ++ END_OF_STATE.now)
+
+abbrev pub counts_of : Phase → Standing → List Part
+counts_of phase s =
+    job_counts (device_words phase s.device) s.impressions s.copies s.documents s.created
+
+-- all cells but the last, which has its form
+unfoldable pub job_cells : Phase → Terms → Job → List ℕ
+job_cells phase terms it =
+    html (job_name it.job (name_words it.name))
+    ++ (state_cell phase terms it.standing
+    ++ (html (counts_of phase it.standing) ++ price_cell phase terms it.standing))
+
+unfoldable pub job_row : (account : List ℕ) → Terms → Job → List ℕ
+job_row account terms it = job_cells (phase_of it) terms it ++ job_acts account terms it
 
 -- the heads of the columns
 unfoldable pub waiting_columns : List Part
@@ -160,18 +195,20 @@ waiting_columns =
     ∷ Mark FILES.now
     ∷ Mark (codes "</th><th scope=\"col\">")
     ∷ Mark MADE.now
+    ∷ Mark (codes "</th><th scope=\"col\" class=\"count\">")
+    ∷ Mark UNITS_NEEDED_BY_JOB.now
     ∷ Mark (codes "</th><th scope=\"col\"><span class=\"unseen\">")
     ∷ Mark ACTS.now
     ∷ Mark (codes "</span></th></tr></thead>\n<tbody>\n")
     ∷ []
 
-abbrev pub table_of_waiting : (account : List ℕ) → List Job → List ℕ
-table_of_waiting account jobs =
+abbrev pub table_of_waiting : (account : List ℕ) → Terms → List Job → List ℕ
+table_of_waiting account terms jobs =
     if length jobs == 0
     then html (remark NOTHING_WAITS.now)
-    else html waiting_columns ++ (flat_map (job_row account) jobs ++ END_OF_TABLE.now)
+    else html waiting_columns ++ (flat_map (job_row account terms) jobs ++ END_OF_TABLE.now)
 
-unfoldable pub waiting_card : (account : List ℕ) → List Job → List ℕ
-waiting_card account jobs =
+unfoldable pub waiting_card : (account : List ℕ) → Terms → List Job → List ℕ
+waiting_card account terms jobs =
     html (card (codes "waiting") WAITING.now)
-    ++ (table_of_waiting account jobs ++ END_OF_CARD.now)
+    ++ (table_of_waiting account terms jobs ++ END_OF_CARD.now)

@@ -2,7 +2,7 @@
 
 ghost use Rattle.std.specs.Prelude.{◌≡◌, ◌++◌, OnOk, flat_map};
 ghost use Rattle.std.specs.List.{list_any};
-ghost use Rattle.page_pages.specs.Devices.{device_item, all_devices, device_if_on, device_row, devices_on, is_on, list_of_devices, look_of, on_sign, on_word};
+ghost use Rattle.page_pages.specs.Devices.{device_item, all_devices, device_row, is_on, list_if_any, look_of, on_sign, on_word, words_of_none};
 ghost use Rattle.page_pages.specs.Frames.{card, remark};
 ghost use Rattle.page_markup.specs.Parts.{html};
 
@@ -13,65 +13,44 @@ use account_rules::Device;
 use page_markup::{Piece, put_all};
 use std::alloc::AllocError;
 
-/// Appends the card of the devices that are on, for the owner's page.
-#[tactic(auto, using(std::proofs::Common::append_assoc), unfolding(crate::specs::Devices::devices_on))]
-pub(crate) fn put_devices_on(out: &mut Vec<u8>, devices: &[Device]) -> Result<(), AllocError>
-    ensures { OnOk result (out.new.items ≡ out.old.items ++ devices_on devices.now) }
-{
-    put_card(out, "devices", DEVICES)?;
-    put_list_on(out, devices)?;
-    out.extend_from_slice(END_OF_CARD.as_bytes())
-}
-
-/// Appends the list of those devices that are on, or that none is.
-#[tactic(auto, using(std::proofs::Common::append_assoc))]
-fn put_list_on(out: &mut Vec<u8>, devices: &[Device]) -> Result<(), AllocError>
-    ensures { OnOk result (out.new.items ≡ out.old.items ++ list_of_devices devices.now) }
-{
-    if !is_any_on(devices) {
-        return put_remark(out, NO_DEVICES);
-    }
-    out.extend_from_slice(LIST_OF_DEVICES.as_bytes())?;
-    put_each_on(out, devices)?;
-    out.extend_from_slice(END_OF_LIST.as_bytes())
-}
-
 fn is_any_on(devices: &[Device]) -> bool
     ensures { result ≡ list_any is_on devices.now }
 {
     devices.iter().any(|device| device.on)
 }
 
-/// Appends an item for each device that is on.
-fn put_each_on(out: &mut Vec<u8>, devices: &[Device]) -> Result<(), AllocError>
-    ensures { OnOk result (out.new.items ≡ out.old.items ++ flat_map device_if_on devices.now) }
+/// Appends that no device is on, if none is.
+fn put_words_of_none(out: &mut Vec<u8>, devices: &[Device]) -> Result<(), AllocError>
+    ensures { OnOk result (out.new.items ≡ out.old.items ++ words_of_none devices.now) }
 {
-    for device in devices {
-        put_if_on(out, device)?;
-    }
-    Ok(())
-}
-
-/// Appends the item of a device, if it is on.
-fn put_if_on(out: &mut Vec<u8>, device: &Device) -> Result<(), AllocError>
-    ensures { OnOk result (out.new.items ≡ out.old.items ++ device_if_on device.now) }
-{
-    if !device.on {
+    if is_any_on(devices) {
         return Ok(());
     }
-    put_device_row(out, device)
+    put_remark(out, NO_DEVICES)
 }
 
-/// Appends the card of all devices, on or off, for the print room's page.
+/// Appends the card of all devices, on or off.
 #[tactic(auto, using(std::proofs::Common::append_assoc), unfolding(crate::specs::Devices::all_devices))]
 pub(crate) fn put_all_devices(out: &mut Vec<u8>, devices: &[Device]) -> Result<(), AllocError>
     ensures { OnOk result (out.new.items ≡ out.old.items ++ all_devices devices.now) }
 {
     put_card(out, "devices", DEVICES)?;
+    put_words_of_none(out, devices)?;
+    put_list_if_any(out, devices)?;
+    out.extend_from_slice(END_OF_CARD.as_bytes())
+}
+
+/// Appends the list of all devices, if there are any.
+#[tactic(auto, using(std::proofs::Common::append_assoc))]
+fn put_list_if_any(out: &mut Vec<u8>, devices: &[Device]) -> Result<(), AllocError>
+    ensures { OnOk result (out.new.items ≡ out.old.items ++ list_if_any devices.now) }
+{
+    if devices.is_empty() {
+        return Ok(());
+    }
     out.extend_from_slice(LIST_OF_DEVICES.as_bytes())?;
     put_each(out, devices)?;
-    out.extend_from_slice(END_OF_LIST.as_bytes())?;
-    out.extend_from_slice(END_OF_CARD.as_bytes())
+    out.extend_from_slice(END_OF_LIST.as_bytes())
 }
 
 /// Appends an item for each device.

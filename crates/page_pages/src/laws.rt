@@ -1,7 +1,7 @@
-//! Laws of the pages: no name breaks a row, buttons that are shown go through, and no password
-//! shows.
+//! Laws of the pages: no name breaks a row, buttons that are shown go through and cost what they
+//! say, and no password shows.
 
-ghost use Rattle.page_pages.specs.ButtonLaws.{HoldsGoThrough, ReleasesAreOffered, ReleasesGoThrough};
+ghost use Rattle.page_pages.specs.ButtonLaws.{ButtonsRelease, HoldsGoThrough, PricesAreReserved};
 ghost use Rattle.page_pages.specs.PasswordLaws.{PasswordsAreKept};
 ghost use Rattle.page_pages.specs.Tags.{NamesAreNoTags};
 
@@ -10,14 +10,16 @@ pub fn names_are_no_tags()
     ensures { NamesAreNoTags }
 {}
 
-/// A job whose owner is offered to release it is released, unless too little is left.
-pub fn releases_go_through()
-    ensures { ReleasesGoThrough }
+/// A held job has the button Release exactly where its owner's release goes through, with the units
+/// that it then reserves.
+#[tactic(auto, using(crate::proofs::Buttons::buttons_release))]
+pub fn buttons_release()
+    ensures { ButtonsRelease }
 {}
 
-/// Each held job that can be released is offered.
-pub fn releases_are_offered()
-    ensures { ReleasesAreOffered }
+/// A price is what a release at a device of its rate reserves.
+pub fn prices_are_reserved()
+    ensures { PricesAreReserved }
 {}
 
 /// A job whose owner is offered to hold it is held.

@@ -14,6 +14,7 @@ mod frame;
 mod laws;
 mod longest;
 mod markup;
+mod offer;
 mod outcome;
 mod owner;
 mod phase;
@@ -29,10 +30,10 @@ pub use accounts::AccountLine;
 pub use begun::BegunLine;
 pub use chart::DayLine;
 pub use laws::{
-    holds_go_through, names_are_no_tags, passwords_are_kept, releases_are_offered,
-    releases_go_through,
+    buttons_release, holds_go_through, names_are_no_tags, passwords_are_kept, prices_are_reserved,
 };
 pub use longest::LongestLine;
+pub use offer::Terms;
 pub use outcome::{Act, Outcome};
 pub use owner::{Owner, put_owner_page};
 pub use phase::{Phase, phase_of};

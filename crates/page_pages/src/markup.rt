@@ -42,6 +42,9 @@ pub(crate) const FIRST_ACT: &str = " class=\"first\"";
 /// Ends the buttons of a job, and its row.
 pub(crate) const END_OF_ACTS: &str = "</form></td></tr>\n";
 
+/// Ends how a job stands.
+pub(crate) const END_OF_STATE: &str = "</small></td>\n";
+
 pub(crate) const END_OF_TABLE: &str = "</tbody>\n</table>\n";
 
 pub(crate) const END_OF_CARD: &str = "</section>\n";

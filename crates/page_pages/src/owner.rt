@@ -4,21 +4,22 @@ ghost use Rattle.std.specs.Prelude.{◌≡◌, ◌++◌, ◌≤◌, OnOk};
 ghost use Rattle.account_rules.specs.Limits.{most_units};
 ghost use Rattle.page_pages.specs.Balances.{balance};
 ghost use Rattle.page_pages.specs.Frames.{document, foot, reload, top};
-ghost use Rattle.page_pages.specs.Owners.{account_title, reloads, stays, content, does_reload, lists, owner_document, owner_end, owner_page, owner_start, reload_if, reload_words};
+ghost use Rattle.page_pages.specs.Owners.{account_title, reloads, stays, content, does_reload, lists, owner_document, owner_end, owner_page, owner_start, reload_if, reload_words, terms_of};
 ghost use Rattle.page_markup.specs.Parts.{html};
 
 use crate::balance::put_balance;
-use crate::devices::put_devices_on;
+use crate::devices::put_all_devices;
 use crate::ended::put_ended_card;
 use crate::form::put_print_form;
 use crate::frame::{put_document, put_foot, put_reload, put_top};
 use crate::markup::{END_OF_PAGE, PAGE_SCRIPT};
+use crate::offer::{Terms, cheapest, dearest};
 use crate::outcome::{Outcome, put_outcome_if_any};
 use crate::texts::{
     ACCOUNT, PRINT_ROOM, RELOADS, START_RELOADING, STATEMENT_FOR, STAYS, STOP_RELOADING,
 };
 use crate::waiting::put_waiting_card;
-use account_rules::{Device, Job, Name};
+use account_rules::{Device, Job, Name, left};
 use ipp_coding::List;
 use page_markup::{Piece, put_all};
 use std::alloc::AllocError;
@@ -39,7 +40,7 @@ pub struct Owner {
     pub waiting: List<Job>,
     /// The jobs that ended last, the last first.
     pub ended: List<Job>,
-    /// All devices, by name. The page shows those that are on.
+    /// All devices, by name.
     pub devices: List<Device>,
     /// What came of the last act.
     pub outcome: Option<Outcome>,
@@ -112,16 +113,37 @@ fn put_content(out: &mut Vec<u8>, owner: &Owner) -> Result<(), AllocError>
     put_balance(out, owner.granted, owner.reserved, owner.charged)
 }
 
-/// Appends the jobs that wait, the form to print, the devices that are on, and the jobs that ended
-/// last.
+/// Appends the jobs that wait, the form to print, the devices, and the jobs that ended last.
 #[tactic(auto, using(std::proofs::Common::append_assoc), unfolding(crate::specs::Owners::lists))]
 fn put_lists(out: &mut Vec<u8>, owner: &Owner) -> Result<(), AllocError>
+    requires granted { owner.now.granted ≤ most_units }
+    requires reserved { owner.now.reserved ≤ most_units }
+    requires charged { owner.now.charged ≤ most_units }
     ensures { OnOk result (out.new.items ≡ out.old.items ++ lists owner.now) }
 {
-    put_waiting_card(out, owner.account.bytes(), owner.waiting.as_slice())?;
+    let terms = terms_of(owner);
+    put_waiting_card(out, owner.account.bytes(), &terms, owner.waiting.as_slice())?;
     put_print_form(out, owner.account.bytes(), owner.needs_password)?;
-    put_devices_on(out, owner.devices.as_slice())?;
+    put_all_devices(out, owner.devices.as_slice())?;
     put_ended_card(out, owner.ended.as_slice())
+}
+
+/// Gives what prices and offers hang on.
+fn terms_of(owner: &Owner) -> Terms
+    requires granted { owner.now.granted ≤ most_units }
+    requires reserved { owner.now.reserved ≤ most_units }
+    requires charged { owner.now.charged ≤ most_units }
+    ensures { result ≡ terms_of owner.now }
+{
+    Terms {
+        left: left(
+            owner.granted as i64,
+            owner.reserved as i64,
+            owner.charged as i64,
+        ),
+        cheapest: cheapest(owner.devices.as_slice()),
+        dearest: dearest(owner.devices.as_slice()),
+    }
 }
 
 /// Appends the foot, which also tells whether the page loads itself anew.

@@ -27,7 +27,7 @@ pub(crate) fn put_reason(out: &mut Vec<u8>, word: Word) -> Result<(), AllocError
 }
 
 /// Appends how many units were needed, and how many were left, which may be fewer than none.
-fn put_quota(out: &mut Vec<u8>, need: u64, left: i64) -> Result<(), AllocError>
+pub(crate) fn put_quota(out: &mut Vec<u8>, need: u64, left: i64) -> Result<(), AllocError>
     ensures { OnOk result
         (out.new.items ≡ out.old.items ++ html (quota_reason need (signed_decimal left))) }
 {

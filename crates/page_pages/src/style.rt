@@ -105,7 +105,7 @@ td small,th small{display:block;font-weight:400;text-wrap:pretty}
 .jobs .acts{white-space:nowrap}
 .acts button{padding-inline:.875rem}
 td.acts{padding-block:.5625rem}
-.acts form{display:flex;gap:.5rem;justify-content:flex-end}
+.acts form{display:flex;flex-wrap:wrap;gap:.5rem;justify-content:flex-end}
 .dense td,.dense tbody th{padding-block:.5rem}
 .dense td .bar{height:.5rem;margin-block:.5rem;min-width:6rem}
 .sum th{font-weight:400}

@@ -76,11 +76,34 @@ pub(crate) const IS_UNCOUNTED: &str = "Its pages are not known: release it at a 
 
 pub(crate) const IS_READY: &str = "It waits until you release it.";
 
+pub(crate) const IS_READY_ELSEWHERE: &str =
+    "No device that counts 1 unit a page is on: release it at a device. Released here, it waits for one.";
+
+pub(crate) const IS_READY_LATER: &str = "No device is on. Released, it waits for one.";
+
+pub(crate) const IS_SHORT: &str = "Too little is left to release it.";
+
 pub(crate) const IS_RELEASED: &str = "It prints once it is started at a device.";
 
 pub(crate) const IS_PRINTING: &str = "A device prints it now.";
 
 pub(crate) const IS_STOPPING: &str = "Its device was told to stop.";
+
+// What helps where too little is left.
+pub(crate) const LITTLE_FOR_ALL: &str = " Too little is left for each device that is on.";
+
+pub(crate) const LITTLE_FOR: &str = " Too little is left for ";
+
+pub(crate) const ENOUGH_FOR: &str = ", and enough for ";
+
+// What a job costs.
+pub(crate) const UNITS_NEEDED_BY_JOB: &str = "Units";
+
+pub(crate) const AT_DEVICE: &str = "at ";
+
+pub(crate) const NOT_KNOWN: &str = "unknown";
+
+pub(crate) const NO_NAME: &str = "without a name";
 
 pub(crate) const ANY_DEVICE: &str = "any";
 
@@ -88,7 +111,7 @@ pub(crate) const NO_DEVICE_YET: &str = "none yet";
 
 pub(crate) const NO_DEVICE: &str = "none";
 
-pub(crate) const RELEASE: &str = "Release";
+pub(crate) const RELEASE_FOR: &str = "Release for ";
 
 pub(crate) const HOLD: &str = "Hold";
 
@@ -181,10 +204,9 @@ pub(crate) const THEN_RELEASE: &str =
 
 pub(crate) const THEN_HOLD: &str = "It reserves nothing now.";
 
-pub(crate) const THEN_CANCEL: &str =
-    "If a device was printing it, what has been printed by then is charged.";
+pub(crate) const THEN_CANCEL: &str = "What was not printed of it is not charged.";
 
-pub(crate) const THEN_PRINT: &str = "It waits until you release it.";
+pub(crate) const THEN_PRINT: &str = "It waits until it is released.";
 
 pub(crate) const NOT_DONE: &str = "This was not done.";
 

@@ -3,17 +3,18 @@
 ghost use Rattle.std.specs.Prelude.{◌≡◌, ◌++◌, OnOk, flat_map};
 ghost use Rattle.page_pages.specs.Frames.{card, remark};
 ghost use Rattle.page_markup.specs.Parts.{html};
-ghost use Rattle.page_pages.specs.Phases.{phase_of, sentence, sign, word};
-ghost use Rattle.page_pages.specs.Waiting.{acts_start, button, job_counts, job_name, job_state, waiting_columns, buttons, cancel_button, device_words, hold_buttons, job_acts, job_row, release_buttons, no_device_words, table_of_waiting, waiting_card};
+ghost use Rattle.page_pages.specs.Phases.{phase_of, sign, word};
+ghost use Rattle.page_pages.specs.Waiting.{acts_start, button, counts_of, job_cells, job_counts, job_form, job_name, job_state, name_words, state_cell, waiting_columns, buttons, cancel_button, device_words, hold_buttons, job_acts, job_row, ready_buttons, release_button, release_buttons, no_device_words, table_of_waiting, waiting_card};
 
 use crate::frame::{put_card, put_remark};
-use crate::markup::{END_OF_ACTS, END_OF_CARD, END_OF_TABLE, FIRST_ACT};
-use crate::phase::{Phase, phase_of, sentence, sign, word};
+use crate::markup::{END_OF_ACTS, END_OF_CARD, END_OF_STATE, END_OF_TABLE, FIRST_ACT};
+use crate::offer::{Terms, offer, put_advice, put_price_cell, why};
+use crate::phase::{Phase, phase_of, sign, word};
 use crate::texts::{
-    ACTS, ANY_DEVICE, CANCEL, COPIES, DEVICE, FILES, HOLD, JOB, MADE, NO_DEVICE_YET, NOTHING_WAITS,
-    NUMBER, PAGES, RELEASE, STATE, WAITING,
+    ACTS, ANY_DEVICE, CANCEL, COPIES, DEVICE, FILES, HOLD, JOB, MADE, NO_DEVICE_YET, NO_NAME,
+    NOTHING_WAITS, NUMBER, PAGES, RELEASE_FOR, STATE, UNITS_NEEDED_BY_JOB, WAITING,
 };
-use account_rules::{Job, Name};
+use account_rules::{Job, Name, Standing};
 use page_markup::{Piece, put_all};
 use std::alloc::AllocError;
 
@@ -22,76 +23,132 @@ use std::alloc::AllocError;
 pub(crate) fn put_waiting_card(
     out: &mut Vec<u8>,
     account: &[u8],
+    terms: &Terms,
     jobs: &[Job],
 ) -> Result<(), AllocError>
-    ensures { OnOk result (out.new.items ≡ out.old.items ++ waiting_card account.now jobs.now) }
+    ensures { OnOk result
+        (out.new.items ≡ out.old.items ++ waiting_card account.now terms.now jobs.now) }
 {
     put_card(out, "waiting", WAITING)?;
-    put_table_of_waiting(out, account, jobs)?;
+    put_table_of_waiting(out, account, terms, jobs)?;
     out.extend_from_slice(END_OF_CARD.as_bytes())
 }
 
 /// Appends the table of the jobs, or that nothing waits.
-fn put_table_of_waiting(out: &mut Vec<u8>, account: &[u8], jobs: &[Job]) -> Result<(), AllocError>
+fn put_table_of_waiting(
+    out: &mut Vec<u8>,
+    account: &[u8],
+    terms: &Terms,
+    jobs: &[Job],
+) -> Result<(), AllocError>
     ensures { OnOk result
-        (out.new.items ≡ out.old.items ++ table_of_waiting account.now jobs.now) }
+        (out.new.items ≡ out.old.items ++ table_of_waiting account.now terms.now jobs.now) }
 {
     if jobs.is_empty() {
         return put_remark(out, NOTHING_WAITS);
     }
-    put_table(out, account, jobs)
+    put_table(out, account, terms, jobs)
 }
 
 /// Appends the table, with a row for each job.
 #[tactic(auto, using(std::proofs::Common::append_assoc))]
-fn put_table(out: &mut Vec<u8>, account: &[u8], jobs: &[Job]) -> Result<(), AllocError>
+fn put_table(
+    out: &mut Vec<u8>,
+    account: &[u8],
+    terms: &Terms,
+    jobs: &[Job],
+) -> Result<(), AllocError>
     ensures { OnOk result (out.new.items ≡ out.old.items ++ (html waiting_columns
-        ++ (flat_map (job_row account.now) jobs.now ++ END_OF_TABLE.now))) }
+        ++ (flat_map (job_row account.now terms.now) jobs.now ++ END_OF_TABLE.now))) }
 {
     put_waiting_columns(out)?;
-    put_jobs(out, account, jobs)?;
+    put_jobs(out, account, terms, jobs)?;
     out.extend_from_slice(END_OF_TABLE.as_bytes())
 }
 
 /// Appends a row for each job.
-fn put_jobs(out: &mut Vec<u8>, account: &[u8], jobs: &[Job]) -> Result<(), AllocError>
+fn put_jobs(
+    out: &mut Vec<u8>,
+    account: &[u8],
+    terms: &Terms,
+    jobs: &[Job],
+) -> Result<(), AllocError>
     ensures { OnOk result
-        (out.new.items ≡ out.old.items ++ flat_map (job_row account.now) jobs.now) }
+        (out.new.items ≡ out.old.items ++ flat_map (job_row account.now terms.now) jobs.now) }
 {
     for job in jobs {
-        put_job_row(out, account, job)?;
+        put_job_row(out, account, terms, job)?;
     }
     Ok(())
 }
 
-/// Appends the row of a job: its name, how it stands, its counts, and its buttons.
+/// Appends the row of a job: its cells, and its form.
 #[tactic(auto, using(std::proofs::Common::append_assoc), unfolding(crate::specs::Waiting::job_row))]
-fn put_job_row(out: &mut Vec<u8>, account: &[u8], job: &Job) -> Result<(), AllocError>
-    ensures { OnOk result (out.new.items ≡ out.old.items ++ job_row account.now job.now) }
+fn put_job_row(
+    out: &mut Vec<u8>,
+    account: &[u8],
+    terms: &Terms,
+    job: &Job,
+) -> Result<(), AllocError>
+    ensures { OnOk result
+        (out.new.items ≡ out.old.items ++ job_row account.now terms.now job.now) }
 {
-    let phase = phase_of(job);
-    put_job_name(out, job.job, job.name.as_slice())?;
-    put_job_state(out, sign(phase), word(phase), sentence(phase))?;
-    put_counts(out, phase, job)?;
-    put_job_acts(out, account, phase, job.job)
+    put_job_cells(out, phase_of(job), terms, job)?;
+    put_job_acts(out, account, terms, job)
+}
+
+/// Appends the name of a job, how it stands, its counts, and what it costs.
+#[tactic(auto, using(std::proofs::Common::append_assoc), unfolding(crate::specs::Waiting::job_cells))]
+fn put_job_cells(
+    out: &mut Vec<u8>,
+    phase: Phase,
+    terms: &Terms,
+    job: &Job,
+) -> Result<(), AllocError>
+    ensures { OnOk result (out.new.items ≡ out.old.items ++ job_cells phase terms.now job.now) }
+{
+    put_job_name(out, job.job, name_words(job.name.as_slice()))?;
+    put_state_cell(out, phase, terms, &job.standing)?;
+    put_counts(out, phase, &job.standing)?;
+    put_price_cell(out, phase, terms, &job.standing)
+}
+
+/// Gives the name of a job, or that it was given none.
+fn name_words(name: &[u8]) -> &[u8]
+    ensures { result.now ≡ name_words name.now }
+{
+    if name.is_empty() {
+        return NO_NAME.as_bytes();
+    }
+    name
+}
+
+/// Appends how a job stands, and what helps.
+#[tactic(auto, using(std::proofs::Common::append_assoc), unfolding(crate::specs::Waiting::state_cell))]
+fn put_state_cell(
+    out: &mut Vec<u8>,
+    phase: Phase,
+    terms: &Terms,
+    s: &Standing,
+) -> Result<(), AllocError>
+    ensures { OnOk result (out.new.items ≡ out.old.items ++ state_cell phase terms.now s.now) }
+{
+    put_job_state(out, sign(phase), word(phase), why(phase, terms, s))?;
+    put_advice(out, phase, terms, s)?;
+    out.extend_from_slice(END_OF_STATE.as_bytes())
 }
 
 /// Appends the cells of a job's device, pages, copies, files, and when it was made.
-fn put_counts(out: &mut Vec<u8>, phase: Phase, job: &Job) -> Result<(), AllocError>
-    ensures { OnOk result (out.new.items ≡ out.old.items ++ html (job_counts
-        (device_words phase job.now.standing.device)
-        job.now.standing.impressions
-        job.now.standing.copies
-        job.now.standing.documents
-        job.now.standing.created)) }
+fn put_counts(out: &mut Vec<u8>, phase: Phase, s: &Standing) -> Result<(), AllocError>
+    ensures { OnOk result (out.new.items ≡ out.old.items ++ html (counts_of phase s.now)) }
 {
     put_job_counts(
         out,
-        device_words(phase, &job.standing.device),
-        job.standing.impressions,
-        job.standing.copies,
-        job.standing.documents,
-        job.standing.created,
+        device_words(phase, &s.device),
+        s.impressions,
+        s.copies,
+        s.documents,
+        s.created,
     )
 }
 
@@ -116,27 +173,48 @@ fn no_device_words(phase: Phase) -> &'static str
 }
 
 /// Appends the form of a job, with a button for each act that may go through.
-#[tactic(auto, using(std::proofs::Common::append_assoc), unfolding(crate::specs::Waiting::job_acts))]
 fn put_job_acts(
     out: &mut Vec<u8>,
     account: &[u8],
-    phase: Phase,
-    number: u32,
+    terms: &Terms,
+    job: &Job,
 ) -> Result<(), AllocError>
     ensures { OnOk result
-        (out.new.items ≡ out.old.items ++ job_acts account.now phase number) }
+        (out.new.items ≡ out.old.items ++ job_acts account.now terms.now job.now) }
+{
+    let offered = offer(terms.left, &job.standing);
+    put_job_form(out, account, phase_of(job), offered, job.job)
+}
+
+/// Appends a job's form with its buttons. Of a job that its owner could release, `offered` are the
+/// units of that, if so many are left.
+#[tactic(auto, using(std::proofs::Common::append_assoc), unfolding(crate::specs::Waiting::job_form))]
+fn put_job_form(
+    out: &mut Vec<u8>,
+    account: &[u8],
+    phase: Phase,
+    offered: Option<u64>,
+    number: u32,
+) -> Result<(), AllocError>
+    ensures { OnOk result (out.new.items ≡ out.old.items
+        ++ job_form account.now number (buttons phase offered number)) }
 {
     put_acts_start(out, account, number)?;
-    put_buttons(out, phase, number)?;
+    put_buttons(out, phase, offered, number)?;
     out.extend_from_slice(END_OF_ACTS.as_bytes())
 }
 
 /// Appends a button for each act that may go through: release, hold or cancel.
-fn put_buttons(out: &mut Vec<u8>, phase: Phase, number: u32) -> Result<(), AllocError>
-    ensures { OnOk result (out.new.items ≡ out.old.items ++ buttons phase number) }
+fn put_buttons(
+    out: &mut Vec<u8>,
+    phase: Phase,
+    offered: Option<u64>,
+    number: u32,
+) -> Result<(), AllocError>
+    ensures { OnOk result (out.new.items ≡ out.old.items ++ buttons phase offered number) }
 {
     match phase {
-        Phase::Ready => put_release_buttons(out, number),
+        Phase::Ready => put_ready_buttons(out, offered, number),
         Phase::Released => put_hold_buttons(out, number),
         Phase::Incomplete | Phase::Locked | Phase::Uncounted | Phase::Printing => {
             put_cancel_button(out, number)
@@ -145,12 +223,22 @@ fn put_buttons(out: &mut Vec<u8>, phase: Phase, number: u32) -> Result<(), Alloc
     }
 }
 
-/// Appends the buttons of a job that its owner may release.
-#[tactic(auto, using(std::proofs::Common::append_assoc), unfolding(crate::specs::Waiting::release_buttons))]
-fn put_release_buttons(out: &mut Vec<u8>, number: u32) -> Result<(), AllocError>
-    ensures { OnOk result (out.new.items ≡ out.old.items ++ release_buttons number) }
+/// Appends the buttons of a job that its owner could release: with Release if enough is left.
+fn put_ready_buttons(out: &mut Vec<u8>, offered: Option<u64>, number: u32) -> Result<(), AllocError>
+    ensures { OnOk result (out.new.items ≡ out.old.items ++ ready_buttons offered number) }
 {
-    put_button(out, FIRST_ACT, "release", RELEASE, number)?;
+    match offered {
+        None => put_cancel_button(out, number),
+        Some(units) => put_release_buttons(out, units, number),
+    }
+}
+
+/// Appends the buttons of a job that its owner may release, for so many units.
+#[tactic(auto, using(std::proofs::Common::append_assoc), unfolding(crate::specs::Waiting::release_buttons))]
+fn put_release_buttons(out: &mut Vec<u8>, units: u64, number: u32) -> Result<(), AllocError>
+    ensures { OnOk result (out.new.items ≡ out.old.items ++ release_buttons units number) }
+{
+    put_release_button(out, units, number)?;
     put_cancel_button(out, number)
 }
 
@@ -193,6 +281,8 @@ fn put_waiting_columns(out: &mut Vec<u8>) -> Result<(), AllocError>
             Piece::Mark(FILES),
             Piece::Mark("</th><th scope=\"col\">"),
             Piece::Mark(MADE),
+            Piece::Mark("</th><th scope=\"col\" class=\"count\">"),
+            Piece::Mark(UNITS_NEEDED_BY_JOB),
             Piece::Mark("</th><th scope=\"col\"><span class=\"unseen\">"),
             Piece::Mark(ACTS),
             Piece::Mark("</span></th></tr></thead>\n<tbody>\n"),
@@ -220,7 +310,7 @@ fn put_job_name(out: &mut Vec<u8>, number: u32, name: &[u8]) -> Result<(), Alloc
     )
 }
 
-/// Appends how a job stands.
+/// Appends how a job stands. What helps may go behind it.
 fn put_job_state<'a>(
     out: &mut Vec<u8>,
     symbol: &'a str,
@@ -240,7 +330,6 @@ fn put_job_state<'a>(
             Piece::Mark(state),
             Piece::Mark("</span><small>"),
             Piece::Mark(why),
-            Piece::Mark("</small></td>\n"),
         ],
     )
 }
@@ -326,6 +415,25 @@ fn put_button<'a>(
             Piece::Number(number as u64),
             Piece::Mark("\">"),
             Piece::Mark(label),
+            Piece::Mark("</button>"),
+        ],
+    )
+}
+
+/// Appends the button that releases a job, for so many units.
+fn put_release_button(out: &mut Vec<u8>, units: u64, number: u32) -> Result<(), AllocError>
+    ensures { OnOk result (out.new.items ≡ out.old.items ++ html (release_button units number)) }
+{
+    put_all(
+        out,
+        &[
+            Piece::Mark("<button"),
+            Piece::Mark(FIRST_ACT),
+            Piece::Mark(" name=\"act\" value=\"release\" aria-describedby=\"job-"),
+            Piece::Number(number as u64),
+            Piece::Mark("\">"),
+            Piece::Mark(RELEASE_FOR),
+            Piece::Number(units),
             Piece::Mark("</button>"),
         ],
     )

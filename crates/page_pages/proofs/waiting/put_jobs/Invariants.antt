@@ -4,4 +4,4 @@ use Rattle.page_pages.proofs.waiting.put_jobs.Given as goal
 
 -- the jobs so far
 abbrev pub invariant-loop-job : goal.invariant-loop-job
-invariant-loop-job l = l.out.items ≡ l.fn.out.items ++ flat_map (job_row l.account) (take l.job-index l.jobs)
+invariant-loop-job l = l.out.items ≡ l.fn.out.items ++ flat_map (job_row l.account l.terms) (take l.job-index l.jobs)
