@@ -22,4 +22,4 @@ each_question_is_told (Account account Grants) life room devices names is = gran
 each_question_is_told (Account account (Waiting device)) life room devices names is = waiting_is_told account device life room devices names is
 each_question_is_told (Account account (Again device number)) life room devices names is = again_is_told account device number life room devices names is
 each_question_is_told (Account account (OwnerPage month outcome stays needs_password)) life room devices names is = owner_pages_are_told account month outcome stays needs_password life room devices names is
-each_question_is_told (Account account (StatementPage month drawn_up)) life room devices names is = statement_pages_are_told account month drawn_up life room devices names is
+each_question_is_told (Account account (StatementPage first last form drawn_up)) life room devices names is = statement_pages_are_told account first last form drawn_up life room devices names is

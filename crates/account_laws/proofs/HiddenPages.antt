@@ -1,18 +1,27 @@
 -- A page is the same where the passwords of its jobs are hidden.
-use Rattle.std.proofs.Common.{◌≡◌, ℕ, Bool, cond, not, ◌&&◌, ◌==◌, List, [], ◌++◌, map, refl, ap}
+use Rattle.std.proofs.Common.{◌≡◌, ℕ, ◌+◌, ◌-◌, Bool, cond, not, ◌&&◌, ◌==◌, List, [], ◌++◌, flat_map, map, refl, ap}
+use Rattle.std.proofs.lemmas.List.Folds.{fold-map}
+use Rattle.std.specs.Fmt.{decimal, signed_decimal}
+use Rattle.std.specs.Prelude.{codes}
 use Rattle.account_laws.proofs.HiddenPasswords.{hidden, still_secret}
 use Rattle.account_laws.proofs.ToldLists.{length_changed, told_changed}
 use Rattle.account_rules.specs.Effects.{is_incomplete}
 use Rattle.account_rules.specs.declared.job.Job.{Job}
 use Rattle.page_markup.specs.Parts.{html}
-use Rattle.page_pages.specs.Devices.{all_devices}
-use Rattle.page_pages.specs.Ended.{device_or_none, ended_card, ended_counts, ended_job, ended_name, table_of_ended}
+use Rattle.page_pages.specs.Ended.{device_or_none, ended_card, ended_columns, ended_counts, ended_job, ended_name, table_of_ended}
 use Rattle.page_pages.specs.Forms.{print_form}
-use Rattle.page_pages.specs.Offers.{offer}
 use Rattle.page_pages.specs.Owners.{content, lists, owner_document, owner_end, owner_page, owner_start, reload_if, terms_of}
 use Rattle.page_pages.specs.Phases.{phase_in, phase_of, printing_phase, sign, word}
-use Rattle.page_pages.specs.Statements.{job_if_then, is_then, statement_count, statement_jobs, statement_page, statement_start}
+use Rattle.page_pages.specs.Movements.{balance, charged_before, charged_since, charged_then, closing, given_back, granted_before, granted_then, is_then, opening}
+use Rattle.page_pages.specs.StatementRows.{balance_row, charge_cell, end_cell, grant_line_if_then, job_ending, job_line, job_line_if_then, name_cell, statement_rows}
+use Rattle.page_pages.specs.Statements.{heading, job_if_then, jobs_end, links, reserved_now, sheet_foot, statement_grants, statement_in, statement_jobs, statement_page, statement_paper, statement_start, sums, sums_before, sums_then, title}
+use Rattle.page_pages.specs.declared.markup.TheConstants.{END_OF_PAGE}
+use Rattle.page_pages.specs.declared.statement.Form.{Form}
+use Rattle.page_pages.specs.declared.statement.Form.TheVariants.{Paper, Csv}
+use Rattle.page_pages.specs.declared.statement_rows.TheConstants.{CLOSING_CELL, COLUMNS, END_OF_ROW, JOB_CELL, OPENING_CELL}
 use Rattle.page_pages.specs.Waiting.{buttons, job_cells, job_form, job_row, table_of_waiting, waiting_card}
+use Rattle.page_pages.specs.Devices.{all_devices}
+use Rattle.page_pages.specs.Offers.{offer}
 use Rattle.page_pages.specs.declared.offer.Terms.{Terms}
 use Rattle.page_pages.specs.declared.owner.Owner.{Owner}
 use Rattle.page_pages.specs.declared.phase.Phase.{Phase}
@@ -103,23 +112,77 @@ module _ (owner : Owner) (waiting ended : List Job) where
   unfolding owner_page
   owner_hidden = λ i. start_hidden i ++ (content_hidden i ++ (lists_hidden i ++ end_hidden i))
 
--- ---- a statement for paper
+-- ---- a statement
 
-then_hidden : (month : ℕ) (job : Job) → job_if_then month (hidden job) ≡ job_if_then month job
-then_hidden month job = ap (λ (row : List ℕ). cond (is_then month job.standing.ended) row []) (ended_hidden job)
+then_hidden : (first last : ℕ) (job : Job) → job_if_then first last (hidden job) ≡ job_if_then first last job
+then_hidden first last job = ap (λ (row : List ℕ). cond (is_then first last job.standing.ended) row []) (ended_hidden job)
+
+line_hidden : (job : Job) → job_line (hidden job) ≡ job_line job
+unfolding job_line job_ending
+line_hidden job =
+    ap
+    (λ (phase : Phase).
+    JOB_CELL.now
+    ++ (end_cell job.standing.ended
+    ++ (codes "," ++ (decimal job.job ++ (codes "," ++ (name_cell job.name ++ (codes ","
+    ++ (word phase ++ (codes "," ++ (device_or_none job.standing.device ++ (codes "," ++ (charge_cell job.standing.charged ++ END_OF_ROW.now))))))))))))
+    (phase_hidden job)
+
+line_then_hidden : (first last : ℕ) (job : Job) → job_line_if_then first last (hidden job) ≡ job_line_if_then first last job
+line_then_hidden first last job = ap (λ (row : List ℕ). cond (is_then first last job.standing.ended) row []) (line_hidden job)
 
 module _ (statement : Statement) (ended : List Job) where
   abbrev statement_of : List Job → Statement
   statement_of jobs = record statement { ended = jobs }
 
+  before_hidden : (month : ℕ) → charged_before month (statement_of (map hidden ended)) ≡ charged_before month (statement_of ended)
+  before_hidden month = ap (λ (n : ℕ). statement.charged - n) (fold-map (λ (n : ℕ) (job : Job). n + charged_since month job) hidden 0 ended)
+
+  then_charged : charged_then (statement_of (map hidden ended)) ≡ charged_then (statement_of ended)
+  then_charged = λ i. before_hidden (statement.last + 1) i - before_hidden statement.first i
+
+  opening_hidden : signed_decimal (opening (statement_of (map hidden ended))) ≡ signed_decimal (opening (statement_of ended))
+  opening_hidden = ap (λ (n : ℕ). signed_decimal (balance (granted_before statement.first statement) n)) (before_hidden statement.first)
+
+  closing_hidden : signed_decimal (closing (statement_of (map hidden ended))) ≡ signed_decimal (closing (statement_of ended))
+  closing_hidden = ap (λ (n : ℕ). signed_decimal (balance statement.granted n)) (before_hidden (statement.last + 1))
+
   statement_start_hidden : statement_start (statement_of (map hidden ended)) ≡ statement_start (statement_of ended)
-  unfolding statement_start
+  unfolding statement_start title links heading
   statement_start_hidden = refl
+
+  statement_sums_hidden : sums (statement_of (map hidden ended)) ≡ sums (statement_of ended)
+  unfolding sums
+  statement_sums_hidden = λ i.
+      html (sums_before (granted_before statement.first statement) (given_back statement) (before_hidden statement.first i) (opening_hidden i))
+      ++ (html (sums_then (granted_then statement) (then_charged i) (closing_hidden i)) ++ reserved_now statement)
+
+  statement_grants_hidden : statement_grants (statement_of (map hidden ended)) ≡ statement_grants (statement_of ended)
+  unfolding statement_grants
+  statement_grants_hidden = refl
 
   statement_jobs_hidden : statement_jobs (statement_of (map hidden ended)) ≡ statement_jobs (statement_of ended)
   unfolding statement_jobs
-  statement_jobs_hidden = ap (λ (rest : List ℕ). html (statement_count statement.ended_then) ++ rest) (within _ _ _ _ (told_changed hidden (job_if_then statement.month) (job_if_then statement.month) (then_hidden statement.month) ended))
+  statement_jobs_hidden =
+      let rows = told_changed hidden (job_if_then statement.first statement.last) (job_if_then statement.first statement.last) (then_hidden statement.first statement.last) ended in
+      λ i. html ended_columns ++ (rows i ++ html (jobs_end (then_charged i)))
+
+  paper_hidden : statement_paper (statement_of (map hidden ended)) ≡ statement_paper (statement_of ended)
+  unfolding statement_paper
+  paper_hidden = λ i. statement_start_hidden i ++ (statement_sums_hidden i ++ (statement_grants_hidden i ++ (statement_jobs_hidden i ++ (html sheet_foot ++ END_OF_PAGE.now))))
+
+  rows_hidden : statement_rows (statement_of (map hidden ended)) ≡ statement_rows (statement_of ended)
+  unfolding statement_rows
+  rows_hidden =
+      let lines = told_changed hidden (job_line_if_then statement.first statement.last) (job_line_if_then statement.first statement.last) (line_then_hidden statement.first statement.last) ended in
+      λ i. COLUMNS.now
+      ++ (balance_row OPENING_CELL.now statement.first (opening_hidden i)
+      ++ (flat_map (grant_line_if_then statement.first statement.last) statement.grants
+      ++ (lines i ++ balance_row CLOSING_CELL.now statement.last (closing_hidden i))))
+
+  in_form : (form : Form) → statement_in form (statement_of (map hidden ended)) ≡ statement_in form (statement_of ended)
+  in_form Paper = paper_hidden
+  in_form Csv = rows_hidden
 
   pub statement_hidden : statement_page (statement_of (map hidden ended)) ≡ statement_page (statement_of ended)
-  unfolding statement_page
-  statement_hidden = in_both _ _ _ _ _ _ statement_start_hidden statement_jobs_hidden
+  statement_hidden = in_form statement.form

@@ -17,7 +17,7 @@ use Rattle.account_laws.proofs.ToldLists.{lines_changed}
 use Rattle.account_laws.specs.PasswordsInQuestions as law
 use Rattle.account_questions.specs.JobLines.{counts_text, escaped, job_text, password_text, place_text, times_text}
 use Rattle.account_questions.specs.Lists.{jobs_text}
-use Rattle.account_questions.specs.Pages.{most_shown, owner_of, statement_of, statement_with}
+use Rattle.account_questions.specs.Pages.{most_shown, owner_of, statement_of}
 use Rattle.account_questions.specs.Questions.{answer_about, answer_to}
 use Rattle.account_questions.specs.Quotas.{quota_text, statement_text}
 use Rattle.account_questions.specs.Stations.{handed_again, is_for, printed_by, said_or, waiting_at}
@@ -161,9 +161,9 @@ about_hidden account (OwnerPage month outcome stays needs_password) room devices
     let owner = owner_of account month outcome stays needs_password room devices in
     (λ i. reply.Line (owner_page (record owner { reserved = reserved_hidden room i; charged = charged_hidden room i; waiting = not_completed_in room i; ended = first_in room most_shown i })))
     ∙ ap reply.Line (owner_hidden owner owner.waiting owner.ended)
-about_hidden account (StatementPage month drawn_up) room devices =
-    let statement = statement_of account month drawn_up room in
-    (λ i. reply.Line (statement_page (statement_with account month drawn_up (granted_to room month) (summary_in month room i) (completed_in room i))))
+about_hidden account (StatementPage first last form drawn_up) room devices =
+    let statement = statement_of account first last form drawn_up room in
+    (λ i. reply.Line (statement_page (record statement { reserved = reserved_hidden room i; charged = charged_hidden room i; ended = completed_in room i })))
     ∙ ap reply.Line (statement_hidden statement statement.ended)
 
 -- ---- every question

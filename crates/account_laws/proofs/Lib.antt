@@ -85,6 +85,7 @@ pub mod LimitsTold
 pub mod LinesTold
 pub mod EscapedNames
 pub mod JobLinesTold
+pub mod StatementsAddUp
 pub mod StatementsTold
 pub mod AgainTold
 pub mod OfferedReleases

@@ -1,13 +1,16 @@
 -- Pages show what was told.
+use Rattle.std.proofs.Common.{ℕ, ap, map}
+use Rattle.std.specs.Cmp.{nat_cmp_total}
+use Rattle.std.specs.FinMap.{FinMap, entries, nat_cmp-IsAntisymmetric, same_map}
+use Rattle.std.specs.Ordering.{nat_cmp}
 use Rattle.account_machine.specs.declared.event.Reply.TheVariants as reply
 use Rattle.account_laws.proofs.AsToldSums.{charged_as_told, granted_as_told, reserved_as_told}
 use Rattle.account_laws.proofs.JobLinesTold.{ended_whole, going_on_whole, last_whole}
 use Rattle.account_laws.proofs.LinesTold.{answered_so, values_told}
-use Rattle.account_laws.proofs.StatementsTold.{summary_as_told}
 use Rattle.account_laws.specs.PagesTold as law
 use Rattle.account_laws.specs.PagesTold.{owner_told, statement_told}
-use Rattle.account_questions.specs.Pages.{statement_with}
 use Rattle.account_questions.specs.declared.question.About.TheVariants.{OwnerPage, StatementPage}
+use Rattle.account_state.specs.Grants.{grant_of}
 use Rattle.page_pages.specs.Owners.{owner_page}
 use Rattle.page_pages.specs.Statements.{statement_page}
 
@@ -35,9 +38,22 @@ owner_pages_are_told account month outcome stays needs_password =
     })))
 
 pub statement_pages_are_told : law.StatementPagesAreTold
-statement_pages_are_told account month drawn_up =
-    answered_so account (StatementPage month drawn_up) (λ told. statement_page (statement_told account month drawn_up told)) (λ told room devices stands known.
-    let granted = granted_as_told told room stands month in
-    let summary = summary_as_told told room stands month in
+statement_pages_are_told account first last form drawn_up =
+    answered_so account (StatementPage first last form drawn_up) (λ told. statement_page (statement_told account first last form drawn_up told)) (λ told room devices stands known.
+    let granted = granted_as_told told room stands last in
+    let reserved = reserved_as_told told room stands in
+    let charged = charged_as_told told room stands in
+    let grants = ap (λ (grants : FinMap nat_cmp ℕ). map grant_of (entries grants)) (same_map nat_cmp_total nat_cmp-IsAntisymmetric room.grants told.grants stands.grants) in
     let ended = ended_whole told room stands in
-    λ i. reply.Line (statement_page (statement_with account month drawn_up (granted i) (summary i) (ended i))))
+    λ i. reply.Line (statement_page (record {
+      account = account;
+      first = first;
+      last = last;
+      form = form;
+      drawn_up = drawn_up;
+      granted = granted i;
+      reserved = reserved i;
+      charged = charged i;
+      grants = grants i;
+      ended = ended i;
+    })))

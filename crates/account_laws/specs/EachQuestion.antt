@@ -38,8 +38,8 @@ about_told account (Waiting device) told =
 about_told account (Again device number) told = again_answer device number told
 about_told account (OwnerPage month outcome stays needs_password) told =
     if_opened told (owner_page (owner_told account month outcome stays needs_password told))
-about_told account (StatementPage month drawn_up) told =
-    if_opened told (statement_page (statement_told account month drawn_up told))
+about_told account (StatementPage first last form drawn_up) told =
+    if_opened told (statement_page (statement_told account first last form drawn_up told))
 
 abbrev pub question_told : Question → (names : List (List ℕ)) → AccountTold → Reply
 question_told Ping names told = reply.Line (codes "ok")

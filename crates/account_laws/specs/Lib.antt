@@ -56,6 +56,7 @@ pub mod PasswordsInQuestions
 pub mod LimitsTold
 pub mod LinesTold
 pub mod JobLinesTold
+pub mod StatementsAddUp
 pub mod StatementsTold
 pub mod OfferedReleases
 pub mod AgainTold

@@ -1,23 +1,23 @@
 -- What the pages of an account show, by what was told (all this project's own). How a page writes
 -- it stands in page_pages.
-use Rattle.std.specs.Prelude.{ℕ, Bool, false, not, ◌&&◌, count_by, List, length, map, take, Option}
-use Rattle.std.specs.FinMap.{entries, values}
-use Rattle.std.specs.List.{sum_by}
+use Rattle.std.specs.Prelude.{ℕ, Bool, false, not, ◌&&◌, List, length, map, take, Option}
+use Rattle.std.specs.FinMap.{entries}
 use Rattle.account_laws.specs.AccountsTold.{AccountTold, charged_told, granted_told, rate_told, reserved_told}
-use Rattle.account_laws.specs.JobsTold.{JobTold, Stage, Prints, HasEnded, is_over, units_charged, units_reserved}
+use Rattle.account_laws.specs.JobsTold.{Stage, Prints, HasEnded, is_over, units_charged, units_reserved}
 use Rattle.account_laws.specs.LinesTold.{IsAnswered, if_opened}
 use Rattle.account_laws.specs.ListedJobs.{Numbered, latest_first, unfinished_jobs}
 use Rattle.account_laws.specs.StagesTold.{ended_told, started_told, state_told}
 use Rattle.account_laws.specs.StandsAsTold.{was_stopped}
-use Rattle.account_laws.specs.StatementsTold.{charged_in, ends_in}
 use Rattle.account_questions.specs.declared.question.About.TheVariants.{OwnerPage, StatementPage}
 use Rattle.account_questions.specs.declared.question.Question.TheVariants.{Account}
+use Rattle.account_state.specs.Grants.{grant_of}
 use Rattle.account_rules.specs.declared.device.Device.{Device}
 use Rattle.account_rules.specs.declared.job.Job.{Job}
 use Rattle.page_pages.specs.Owners.{owner_page}
 use Rattle.page_pages.specs.Statements.{statement_page}
 use Rattle.page_pages.specs.declared.outcome.Outcome.{Outcome}
 use Rattle.page_pages.specs.declared.owner.Owner.{Owner}
+use Rattle.page_pages.specs.declared.statement.Form.{Form}
 use Rattle.page_pages.specs.declared.statement.Statement.{Statement}
 
 -- ---- a job, and a device
@@ -82,25 +82,26 @@ OwnerPagesAreTold =
     → IsAnswered (Account account (OwnerPage month outcome stays needs_password)) (λ told.
     if_opened told (owner_page (owner_told account month outcome stays needs_password told)))
 
--- ---- a statement for paper
+-- ---- a statement
 
--- the quota up to the month, what the jobs that ended in it were charged and how many these are, and
--- all jobs that ended, the last first
-abbrev pub statement_told :
-    (account : List ℕ) (month drawn_up : ℕ) (told : AccountTold) → Statement
-statement_told account month drawn_up told = record {
+-- what was granted up to the last month, what is reserved and was charged, all grants, and all jobs
+-- that ended, the last first
+abbrev pub statement_told : (account : List ℕ) (first last : ℕ) (form : Form) (drawn_up : ℕ)
+    (told : AccountTold) → Statement
+statement_told account first last form drawn_up told = record {
   account = account;
-  month = month;
+  first = first;
+  last = last;
+  form = form;
   drawn_up = drawn_up;
-  granted = granted_told told month;
+  granted = granted_told told last;
   reserved = reserved_told told;
   charged = charged_told told;
-  charged_then = sum_by (charged_in month) (values told.jobs);
-  ended_then = count_by (λ (job : JobTold). ends_in month job.stage) (values told.jobs);
+  grants = map grant_of (entries told.grants);
   ended = map whole_job (latest_first told);
 }
 
 abbrev pub StatementPagesAreTold : Type 0
-StatementPagesAreTold = (account : List ℕ) (month drawn_up : ℕ)
-    → IsAnswered (Account account (StatementPage month drawn_up)) (λ told.
-    if_opened told (statement_page (statement_told account month drawn_up told)))
+StatementPagesAreTold = (account : List ℕ) (first last : ℕ) (form : Form) (drawn_up : ℕ)
+    → IsAnswered (Account account (StatementPage first last form drawn_up)) (λ told.
+    if_opened told (statement_page (statement_told account first last form drawn_up told)))

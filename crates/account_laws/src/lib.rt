@@ -25,7 +25,9 @@ pub use printing::{
     passwords_stay_secret,
 };
 pub use questions::{pages_tell_the_life, questions_tell_the_life, releases_are_offered};
-pub use quota_account::{accounts_balance, releases_owe_nothing, settlements_charge};
+pub use quota_account::{
+    accounts_balance, months_join, releases_owe_nothing, settlements_charge, statements_add_up,
+};
 pub use refusals::{refusals_are_coded, refusals_mean, refusals_send_back, requests_are_done};
 pub use replies::answers_are_spelled;
 pub use requests::{

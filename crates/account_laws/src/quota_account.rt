@@ -1,7 +1,8 @@
-//! Laws on your quota: grants, reservations and charges add up, by what was done. Nobody
-//! calls them at run time; docs/PROMISES.md lists them.
+//! Laws on your quota: grants, reservations and charges add up, by what was done, and so do
+//! statements. Nobody calls them at run time; docs/PROMISES.md lists them.
 
 ghost use Rattle.account_laws.specs.QuotaAccount.{AccountsBalance, ReleasesOweNothing, SettlementsCharge};
+ghost use Rattle.account_laws.specs.StatementsAddUp.{MonthsJoin, StatementsAddUp};
 
 /// Law: the account of your quota balances. It was granted what the grants up to a month granted, and
 /// charged what your settlements charged. What releases of your jobs reserved is reserved still, or
@@ -23,4 +24,19 @@ pub fn releases_owe_nothing()
 #[tactic(auto, using(crate::proofs::QuotaAccounts::settlements_charge))]
 pub fn settlements_charge()
     ensures { SettlementsCharge }
+{}
+
+/// Law: a statement adds up. It opens with what was granted for months before, less what jobs were
+/// charged that ended before. Its rows, each grant for its months and each job that ended in them,
+/// lead from there to what it closes with, which is the same of the months up to its last.
+#[tactic(auto, using(crate::proofs::StatementsAddUp::statements_add_up))]
+pub fn statements_add_up()
+    ensures { StatementsAddUp }
+{}
+
+/// Law: what one statement closes with, the next opens with, whatever was asked in between, unless
+/// that was a grant for a month that had ended, or a settlement at a moment in one.
+#[tactic(auto, using(crate::proofs::StatementsAddUp::months_join))]
+pub fn months_join()
+    ensures { MonthsJoin }
 {}

@@ -1,13 +1,12 @@
 -- Rule: The pages of an account (all this project's own).
-use Rattle.std.specs.Prelude.{ℕ, Bool, List, Option, Some}
-use Rattle.std.specs.FinMap.{values}
+use Rattle.std.specs.Prelude.{ℕ, Bool, List, map, Option, Some}
+use Rattle.std.specs.FinMap.{entries, values}
 use Rattle.page_pages.specs.declared.outcome.Outcome.{Outcome}
 use Rattle.page_pages.specs.declared.owner.Owner.{Owner}
+use Rattle.page_pages.specs.declared.statement.Form.{Form}
 use Rattle.page_pages.specs.declared.statement.Statement.{Statement}
-use Rattle.account_state.specs.Summaries.{summary_of}
-use Rattle.account_state.specs.declared.summary.Summary.{Summary}
+use Rattle.account_state.specs.Grants.{grant_of}
 use Rattle.account_rules.specs.Devices.{Devices}
-use Rattle.account_rules.specs.declared.job.Job.{Job}
 use Rattle.account_state.specs.Queues.{first_jobs, completed, not_completed}
 use Rattle.account_state.specs.Rooms.{RoomValue}
 use Rattle.account_state.specs.Sums.{charged_in, granted_to, reserved_in}
@@ -34,24 +33,19 @@ owner_of account month outcome stays needs_password room devices = record {
   needs_password = needs_password;
 }
 
--- what a statement shows of a summary, and of all jobs that have ended
-abbrev pub statement_with : (account : List ℕ) (month drawn_up granted : ℕ) (summary : Summary)
-    (ended : List Job) → Statement
-statement_with account month drawn_up granted summary ended = record {
+-- what a statement shows: what was granted for the months up to the last, what all jobs reserve and
+-- were charged, all grants, and all jobs that have ended. Its rows are those of its months.
+abbrev pub statement_of : (account : List ℕ) (first last : ℕ) (form : Form) (drawn_up : ℕ)
+    (room : RoomValue) → Statement
+statement_of account first last form drawn_up room = record {
   account = account;
-  month = month;
+  first = first;
+  last = last;
+  form = form;
   drawn_up = drawn_up;
-  granted = granted;
-  reserved = summary.reserved;
-  charged = summary.charged;
-  charged_then = summary.charged_then;
-  ended_then = summary.ended_then;
-  ended = ended;
+  granted = granted_to room last;
+  reserved = reserved_in room;
+  charged = charged_in room;
+  grants = map grant_of (entries room.grants);
+  ended = completed (values room.jobs);
 }
-
--- what the statement of a month for paper shows
-abbrev pub statement_of : (account : List ℕ) (month drawn_up : ℕ) (room : RoomValue) → Statement
-statement_of account month drawn_up room = statement_with account month drawn_up
-    (granted_to room month)
-    (summary_of month (values room.jobs))
-    (completed (values room.jobs))

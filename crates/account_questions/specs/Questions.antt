@@ -81,8 +81,8 @@ answer_about account (Waiting device) room devices = waiting_told room devices d
 answer_about account (Again device number) room devices = again_told room devices device number
 answer_about account (OwnerPage month outcome stays needs_password) room devices =
     reply.Line (owner_page (owner_of account month outcome stays needs_password room devices))
-answer_about account (StatementPage month drawn_up) room devices =
-    reply.Line (statement_page (statement_of account month drawn_up room))
+answer_about account (StatementPage first last form drawn_up) room devices =
+    reply.Line (statement_page (statement_of account first last form drawn_up room))
 
 -- by the room of the account that it is about, if that is open, by the devices, and by the names of
 -- all accounts that are open

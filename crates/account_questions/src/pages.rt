@@ -1,13 +1,10 @@
-//! Writes the owner's page and the statement for paper, with the figures that were looked up.
+//! Writes the owner's page and the statement, with the figures that were looked up.
 
 ghost use Rattle.std.specs.Prelude.{◌≡◌, ◌≤◌, IfOk};
 ghost use Rattle.page_pages.specs.Owners.{owner_page};
 ghost use Rattle.page_pages.specs.Statements.{statement_page};
-ghost use Rattle.account_questions.specs.Pages.{statement_with};
 ghost use Rattle.account_rules.specs.Limits.{most_units};
 
-use account_rules::{Job, Name};
-use account_state::Summary;
 use ipp_coding::List;
 use page_pages::{Owner, Statement, put_owner_page, put_statement};
 use std::alloc::{AllocError, Global};
@@ -27,7 +24,7 @@ pub fn owner_page(alloc: Global, owner: &Owner) -> Result<List<u8>, AllocError>
     Ok(List { items })
 }
 
-/// Writes a statement for paper as bytes.
+/// Writes a statement as bytes.
 pub fn statement_page(alloc: Global, statement: &Statement) -> Result<List<u8>, AllocError>
     requires granted { statement.now.granted ≤ most_units }
     requires reserved { statement.now.reserved ≤ most_units }
@@ -37,29 +34,4 @@ pub fn statement_page(alloc: Global, statement: &Statement) -> Result<List<u8>, 
     let mut items = Vec::new(alloc);
     put_statement(&mut items, statement)?;
     Ok(List { items })
-}
-
-/// Puts together what a statement for paper shows: the figures of the summary, and the jobs that
-/// have ended.
-pub fn statement_with(
-    account: Name,
-    month: u32,
-    drawn_up: u64,
-    granted: u64,
-    summary: Summary,
-    ended: List<Job>,
-) -> Statement
-    ensures { result ≡ statement_with account month drawn_up granted summary ended }
-{
-    Statement {
-        account,
-        month,
-        drawn_up,
-        granted,
-        reserved: summary.reserved,
-        charged: summary.charged,
-        charged_then: summary.charged_then,
-        ended_then: summary.ended_then,
-        ended,
-    }
 }

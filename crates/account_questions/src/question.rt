@@ -4,7 +4,7 @@ ghost use Rattle.std.specs.Prelude.{◌≡◌};
 ghost use Rattle.account_questions.specs.Questions.{asks_end};
 
 use account_rules::Name;
-use page_pages::Outcome;
+use page_pages::{Form, Outcome};
 
 /// What is asked in one line, or for one page.
 #[derive(Clone, Copy)]
@@ -69,10 +69,12 @@ pub enum About {
         stays: bool,
         needs_password: bool,
     },
-    /// The statement of a month for paper, and the moment that it is drawn up at, in seconds since
-    /// 1970-01-01T00:00:00Z.
+    /// The statement of a month, or of the twelve of a year, as a page or as a table, and the moment
+    /// that it is drawn up at, in seconds since 1970-01-01T00:00:00Z.
     StatementPage {
-        month: u32,
+        first: u32,
+        last: u32,
+        form: Form,
         drawn_up: u64,
     },
 }

@@ -34,7 +34,7 @@ SaysAbout fields account (Again device job) =
     × SaysNumber number job
 -- no line asks for a page
 SaysAbout fields account (OwnerPage month outcome stays needs_password) = ⊥
-SaysAbout fields account (StatementPage month drawn_up) = ⊥
+SaysAbout fields account (StatementPage first last form drawn_up) = ⊥
 
 abbrev pub SaysQuestion : (fields : List (List ℕ)) → Question → Type 0
 SaysQuestion fields Ping = fields ≡ codes "ping" ∷ []

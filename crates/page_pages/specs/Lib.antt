@@ -8,6 +8,7 @@ pub mod Ended
 pub mod Forms
 pub mod Frames
 pub mod Longest
+pub mod Movements
 pub mod Offers
 pub mod Outcomes
 pub mod Owners
@@ -16,6 +17,7 @@ pub mod Phases
 pub mod Reasons
 pub mod Refusals
 pub mod Rooms
+pub mod StatementRows
 pub mod Statements
 pub mod Tags
 pub mod Waiting

@@ -1,73 +1,234 @@
--- Rule: A statement for paper: what one account was granted and charged, and its jobs of one month.
-use Rattle.std.specs.Prelude.{ℕ, Bool, false, ◌==◌, if◌then◌else◌, min, List, [], ◌∷◌, ◌++◌, Option, Some, None, codes, flat_map}
-use Rattle.account_rules.specs.Limits.{last_moment}
+-- Rule: A statement for paper: the balance of an account as a month or a year begins, each grant for
+-- it and each job that ended in it, and the balance as it ends.
+use Rattle.std.specs.Prelude.{ℕ, ◌+◌, ◌-◌, ◌/◌, ◌==◌, Bool, not, nat_lt, if◌then◌else◌, min, List, [], ◌∷◌, ◌++◌, codes, flat_map}
+use Rattle.std.specs.Fmt.{signed_decimal}
+use Rattle.account_rules.specs.Limits.{first_month, last_moment}
 use Rattle.account_rules.specs.Months.{month_at}
+use Rattle.account_rules.specs.declared.account.Grant.{Grant}
 use Rattle.account_rules.specs.declared.job.Job.{Job}
 use Rattle.page_pages.specs.Balances.{left_text}
 use Rattle.page_pages.specs.Ended.{ended_columns, ended_job}
-use Rattle.page_pages.specs.Frames.{document, top}
-use Rattle.page_markup.specs.Parts.{Part, html, Mark, Text, Number, Moment, Month}
-use Rattle.page_pages.specs.declared.markup.TheConstants.{END_OF_PAGE, END_OF_TABLE}
+use Rattle.page_pages.specs.Frames.{top}
+use Rattle.page_pages.specs.Movements.{charged_before, charged_then, given_back, granted_before, granted_then, is_then, is_within, opening, closing}
+use Rattle.page_markup.specs.Parts.{Part, html, Mark, Text, Number, Moment, Month, MonthNumber}
+use Rattle.page_pages.specs.StatementRows.{statement_rows}
+use Rattle.page_pages.specs.declared.markup.TheConstants.{DOCUMENT, END_OF_PAGE}
+use Rattle.page_pages.specs.declared.statement.Form.{Form}
+use Rattle.page_pages.specs.declared.statement.Form.TheVariants.{Paper, Csv}
 use Rattle.page_pages.specs.declared.statement.Statement.{Statement}
-use Rattle.page_pages.specs.declared.texts.TheConstants.{BACK_TO, CHARGED_IN, CHARGED_SO_FAR, DRAWN_UP, GRANTED_UP_TO, IN_THE_MONTH, LEFT_NOW, PRINT_ROOM, RESERVED_NOW, STATEMENT, THEIR_NUMBER, TIMES, UNITS}
+use Rattle.page_pages.specs.declared.texts.TheConstants.{AS_CSV, BACK_TO, CHARGED_BEFORE, CLOSING, DRAWN_UP, GIVEN_BACK, GRANTED, GRANTED_BEFORE, JOBS_ENDED, LEFT_NOW, LESS_CHARGED, MONTH, OPENING, PLUS_GRANTED, PRINT_ROOM, PRODUCT, RESERVED_NOW, STATEMENT, TIMES, UNITS, UNITS_CHARGED}
 
--- whose statement it is, of which month, and when it was drawn up
-unfoldable pub statement_title : (account : List ℕ) (month now : ℕ) → List Part
-statement_title account month now =
+-- the start of the page, up to where its title names the months
+unfoldable pub title_start : (account : List ℕ) → List Part
+title_start account =
+    Mark DOCUMENT.now
+    ∷ Mark (codes "<title>")
+    ∷ Text account
+    ∷ Mark (codes ", ")
+    ∷ []
+
+-- the end of the title
+unfoldable pub title_end : List Part
+title_end =
+    Mark (codes " - ")
+    ∷ Mark STATEMENT.now
+    ∷ Mark (codes " - ")
+    ∷ Mark PRODUCT.now
+    ∷ Mark (codes "</title>\n")
+    ∷ []
+
+-- a month in words
+unfoldable pub of_month : (month : ℕ) → List Part
+of_month month =
+    Month month
+    ∷ []
+
+-- a year
+unfoldable pub of_year : (year : ℕ) → List Part
+of_year year =
+    Number year
+    ∷ []
+
+-- the start of the links, with the one to the owner's page
+unfoldable pub back_link : (account : List ℕ) → List Part
+back_link account =
     Mark (codes "<nav class=\"pager screen sheet\"><a href=\"/")
     ∷ Text account
     ∷ Mark (codes "\">")
     ∷ Mark BACK_TO.now
     ∷ Text account
-    ∷ Mark (codes "</a></nav>\n<article class=\"card sheet\">\n<header><div><p class=\"quiet\">")
+    ∷ Mark (codes "</a>")
+    ∷ []
+
+-- a link to the statement of a month
+unfoldable pub month_link : (month : ℕ) → List Part
+month_link month =
+    Mark (codes "\n<a href=\"?month=")
+    ∷ MonthNumber month
+    ∷ Mark (codes "\">")
+    ∷ Month month
+    ∷ Mark (codes "</a>")
+    ∷ []
+
+-- a link to the statement of a year
+unfoldable pub year_link : (year : ℕ) → List Part
+year_link year =
+    Mark (codes "\n<a href=\"?year=")
+    ∷ Number year
+    ∷ Mark (codes "\">")
+    ∷ Number year
+    ∷ Mark (codes "</a>")
+    ∷ []
+
+-- the link to the table of a month, and ends the links
+unfoldable pub month_table_link : (account : List ℕ) (month : ℕ) → List Part
+month_table_link account month =
+    Mark (codes "\n<a href=\"/")
+    ∷ Text account
+    ∷ Mark (codes "/statement.csv?month=")
+    ∷ MonthNumber month
+    ∷ Mark (codes "\">")
+    ∷ Mark AS_CSV.now
+    ∷ Mark (codes "</a></nav>\n")
+    ∷ []
+
+-- the link to the table of a year, and ends the links
+unfoldable pub year_table_link : (account : List ℕ) (year : ℕ) → List Part
+year_table_link account year =
+    Mark (codes "\n<a href=\"/")
+    ∷ Text account
+    ∷ Mark (codes "/statement.csv?year=")
+    ∷ Number year
+    ∷ Mark (codes "\">")
+    ∷ Mark AS_CSV.now
+    ∷ Mark (codes "</a></nav>\n")
+    ∷ []
+
+-- the heading, up to where it names the months
+unfoldable pub heading_start : (account : List ℕ) → List Part
+heading_start account =
+    Mark (codes "<article class=\"card sheet\">\n<header><div><p class=\"quiet\">")
     ∷ Mark STATEMENT.now
     ∷ Mark (codes "</p>\n<h1>")
     ∷ Text account
     ∷ Mark (codes "</h1>\n<p>")
-    ∷ Month month
-    ∷ Mark (codes "</p></div>\n<p class=\"quiet\">")
+    ∷ []
+
+-- the rest of the heading: when the statement was drawn up
+unfoldable pub heading_end : (now : ℕ) → List Part
+heading_end now =
+    Mark (codes "</p></div>\n<p class=\"quiet\">")
     ∷ Mark DRAWN_UP.now
     ∷ Moment now
     ∷ Mark (codes " UTC</p></header>\n")
     ∷ []
 
--- the table of sums
-unfoldable pub statement_sums : (granted reserved charged charged_then : ℕ) (left : List ℕ)
-    → List Part
-statement_sums granted reserved charged charged_then left =
-    Mark (codes "<table class=\"dense sum\"><tbody>\n<tr><th scope=\"row\">")
-    ∷ Mark GRANTED_UP_TO.now
+-- the start of the sums: how the opening balance comes about, which is the text `left`
+unfoldable pub sums_before : (granted given_back charged : ℕ) (left : List ℕ) → List Part
+sums_before granted given_back charged left =
+    Mark (codes "<table class=\"dense sum\"><tbody>\n")
+    ∷ Mark (codes "<tr><th scope=\"row\">")
+    ∷ Mark GRANTED_BEFORE.now
     ∷ Mark (codes "</th><td class=\"count\">")
     ∷ Number granted
-    ∷ Mark (codes "</td></tr>\n<tr><th scope=\"row\">")
-    ∷ Mark CHARGED_IN.now
+    ∷ Mark (codes "</td></tr>\n")
+    ∷ Mark (codes "<tr><th scope=\"row\">")
+    ∷ Mark GIVEN_BACK.now
     ∷ Mark (codes "</th><td class=\"count\">")
-    ∷ Number charged_then
-    ∷ Mark (codes "</td></tr>\n<tr><th scope=\"row\">")
-    ∷ Mark CHARGED_SO_FAR.now
+    ∷ Number given_back
+    ∷ Mark (codes "</td></tr>\n")
+    ∷ Mark (codes "<tr><th scope=\"row\">")
+    ∷ Mark CHARGED_BEFORE.now
     ∷ Mark (codes "</th><td class=\"count\">")
     ∷ Number charged
-    ∷ Mark (codes "</td></tr>\n<tr><th scope=\"row\">")
+    ∷ Mark (codes "</td></tr>\n")
+    ∷ Mark (codes "</tbody><tbody>\n<tr><th scope=\"row\"><strong>")
+    ∷ Mark OPENING.now
+    ∷ Mark (codes "</strong></th><td class=\"count\"><strong>")
+    ∷ Mark left
+    ∷ Mark (codes "</strong></td></tr>\n")
+    ∷ []
+
+-- what moved, and the closing balance, which is the text `left`
+unfoldable pub sums_then : (granted charged : ℕ) (left : List ℕ) → List Part
+sums_then granted charged left =
+    Mark (codes "<tr><th scope=\"row\">")
+    ∷ Mark PLUS_GRANTED.now
+    ∷ Mark (codes "</th><td class=\"count\">")
+    ∷ Number granted
+    ∷ Mark (codes "</td></tr>\n")
+    ∷ Mark (codes "<tr><th scope=\"row\">")
+    ∷ Mark LESS_CHARGED.now
+    ∷ Mark (codes "</th><td class=\"count\">")
+    ∷ Number charged
+    ∷ Mark (codes "</td></tr>\n")
+    ∷ Mark (codes "</tbody><tfoot>\n")
+    ∷ Mark (codes "<tr><th scope=\"row\">")
+    ∷ Mark CLOSING.now
+    ∷ Mark (codes "</th><td class=\"count\">")
+    ∷ Mark left
+    ∷ Mark (codes "</td></tr>\n")
+    ∷ []
+
+-- what is reserved now, and what that leaves, which is the text `left`
+unfoldable pub sums_now : (reserved : ℕ) (left : List ℕ) → List Part
+sums_now reserved left =
+    Mark (codes "<tr><th scope=\"row\">")
     ∷ Mark RESERVED_NOW.now
     ∷ Mark (codes "</th><td class=\"count\">")
     ∷ Number reserved
-    ∷ Mark (codes "</td></tr>\n</tbody><tfoot>\n<tr><th scope=\"row\">")
+    ∷ Mark (codes "</td></tr>\n")
+    ∷ Mark (codes "<tr><th scope=\"row\">")
     ∷ Mark LEFT_NOW.now
     ∷ Mark (codes "</th><td class=\"count\">")
     ∷ Mark left
-    ∷ Mark (codes "</td></tr>\n</tfoot></table>\n")
+    ∷ Mark (codes "</td></tr>\n")
     ∷ []
 
--- how many jobs ended in the month
-unfoldable pub statement_count : (count : ℕ) → List Part
-statement_count count =
-    Mark (codes "<section aria-labelledby=\"ended\"><h2 id=\"ended\">")
-    ∷ Mark IN_THE_MONTH.now
-    ∷ Mark (codes "</h2>\n<p class=\"quiet\">")
-    ∷ Mark THEIR_NUMBER.now
-    ∷ Mark (codes ": ")
-    ∷ Number count
-    ∷ Mark (codes "</p>\n")
+-- the end of the sums, and the start of the table of grants
+unfoldable pub grants_start : List Part
+grants_start =
+    Mark (codes "</tfoot></table>\n<section aria-labelledby=\"granted\"><h2 id=\"granted\">")
+    ∷ Mark GRANTED.now
+    ∷ Mark (codes "</h2>\n<table class=\"dense\">\n<thead><tr><th scope=\"col\">")
+    ∷ Mark MONTH.now
+    ∷ Mark (codes "</th><th scope=\"col\" class=\"count\">")
+    ∷ Mark UNITS_CHARGED.now
+    ∷ Mark (codes "</th></tr></thead>\n<tbody>\n")
+    ∷ []
+
+-- the row of a grant
+unfoldable pub grant_row : (month pages : ℕ) → List Part
+grant_row month pages =
+    Mark (codes "<tr><th scope=\"row\">")
+    ∷ Month month
+    ∷ Mark (codes "</th><td class=\"count\">")
+    ∷ Number pages
+    ∷ Mark (codes "</td></tr>\n")
+    ∷ []
+
+-- the end of the table of grants, with their sum, and the heading of the jobs
+unfoldable pub grants_end : (granted : ℕ) → List Part
+grants_end granted =
+    Mark (codes "</tbody><tfoot>\n")
+    ∷ Mark (codes "<tr><th scope=\"row\">")
+    ∷ Mark PLUS_GRANTED.now
+    ∷ Mark (codes "</th><td class=\"count\">")
+    ∷ Number granted
+    ∷ Mark (codes "</td></tr>\n")
+    ∷ Mark (codes "</tfoot></table>\n</section>\n<section aria-labelledby=\"ended\"><h2 id=\"ended\">")
+    ∷ Mark JOBS_ENDED.now
+    ∷ Mark (codes "</h2>\n")
+    ∷ []
+
+-- the end of the table of jobs, with the sum of their charges
+unfoldable pub jobs_end : (charged : ℕ) → List Part
+jobs_end charged =
+    Mark (codes "</tbody><tfoot>\n<tr><th scope=\"row\" colspan=\"5\">")
+    ∷ Mark LESS_CHARGED.now
+    ∷ Mark (codes "</th><td class=\"count\">")
+    ∷ Number charged
+    ∷ Mark (codes "</td></tr>\n</tfoot></table>\n")
     ∷ []
 
 -- the end of the statement, and the foot of the page
@@ -80,33 +241,111 @@ sheet_foot =
     ∷ Mark TIMES.now
     ∷ []
 
--- ---- the jobs of the month
+-- ---- the months
 
--- an end, if there was one, was in the month
-abbrev pub is_then : (month : ℕ) (ended : Option ℕ) → Bool
-is_then month None = false
-is_then month (Some at) = month_at (min at last_moment) == month
+-- one month, or else the twelve of a year
+abbrev pub is_year : Statement → Bool
+is_year it = not (it.first == it.last)
 
-abbrev pub job_if_then : (month : ℕ) → Job → List ℕ
-job_if_then month job = if is_then month job.standing.ended then ended_job job else []
+-- as November 2026, or as 2026
+abbrev pub months : (year : Bool) (month : ℕ) → List ℕ
+months year month = if year then html (of_year (month / 12)) else html (of_month month)
+
+-- ---- the links
+
+abbrev pub link : (year : Bool) (month : ℕ) → List ℕ
+link year month = if year then html (year_link (month / 12)) else html (month_link month)
+
+-- to what comes before
+abbrev pub earlier : Statement → List ℕ
+earlier it = if nat_lt first_month it.first then link (is_year it) (it.first - 1) else []
+
+-- the month in which the statement is drawn up
+abbrev pub drawn_in : Statement → ℕ
+drawn_in it = month_at (min it.drawn_up last_moment)
+
+-- to what comes behind, if that has begun
+abbrev pub later : Statement → List ℕ
+later it = if nat_lt it.last (drawn_in it) then link (is_year it) (it.last + 1) else []
+
+abbrev pub table_link : Statement → List ℕ
+table_link it =
+    if is_year it then html (year_table_link it.account (it.first / 12))
+    else html (month_table_link it.account it.first)
+
+-- to the owner's page; before and behind; of a month its year, of a year its first month; the table
+unfoldable pub links : Statement → List ℕ
+links it =
+    html (back_link it.account)
+    ++ (earlier it ++ (later it ++ (link (not (is_year it)) it.first ++ table_link it)))
+
+-- ---- the start
+
+unfoldable pub title : Statement → List ℕ
+title it = html (title_start it.account) ++ (months (is_year it) it.first ++ html title_end)
+
+unfoldable pub heading : Statement → List ℕ
+heading it =
+    html (heading_start it.account)
+    ++ (months (is_year it) it.first ++ html (heading_end it.drawn_up))
+
+unfoldable pub statement_start : Statement → List ℕ
+statement_start it = title it ++ (html (top PRINT_ROOM.now) ++ (links it ++ heading it))
+
+-- ---- the sums
+
+-- what is reserved now is told where the last month is that in which the statement is drawn up
+abbrev pub reserved_now : Statement → List ℕ
+reserved_now it =
+    if it.last == drawn_in it
+    then html (sums_now it.reserved (left_text it.granted it.reserved it.charged)) else []
+
+abbrev pub opening_sums : Statement → List ℕ
+opening_sums it = html (sums_before (granted_before it.first it) (given_back it)
+    (charged_before it.first it) (signed_decimal (opening it)))
+
+abbrev pub closing_sums : Statement → List ℕ
+closing_sums it =
+    html (sums_then (granted_then it) (charged_then it) (signed_decimal (closing it)))
+
+unfoldable pub sums : Statement → List ℕ
+sums it = opening_sums it ++ (closing_sums it ++ reserved_now it)
+
+-- ---- the rows
+
+-- of a grant for one of the months
+abbrev pub grant_if_then : (first last : ℕ) → Grant → List ℕ
+grant_if_then first last grant =
+    if is_within first last grant.month then html (grant_row grant.month grant.pages) else []
+
+unfoldable pub statement_grants : Statement → List ℕ
+statement_grants it =
+    html grants_start
+    ++ (flat_map (grant_if_then it.first it.last) it.grants
+    ++ html (grants_end (granted_then it)))
+
+-- of a job that ended in one of the months
+abbrev pub job_if_then : (first last : ℕ) → Job → List ℕ
+job_if_then first last job =
+    if is_then first last job.standing.ended then ended_job job else []
 
 unfoldable pub statement_jobs : Statement → List ℕ
 statement_jobs it =
-    html (statement_count it.ended_then)
-    ++ (html ended_columns ++ (flat_map (job_if_then it.month) it.ended ++ END_OF_TABLE.now))
+    html ended_columns
+    ++ (flat_map (job_if_then it.first it.last) it.ended ++ html (jobs_end (charged_then it)))
 
 -- ---- the page
 
-unfoldable pub statement_start : Statement → List ℕ
-statement_start it =
-    html (document it.account)
-    ++ (html (top PRINT_ROOM.now) ++ html (statement_title it.account it.month it.drawn_up))
-
-abbrev pub sums : Statement → List ℕ
-sums it = html (statement_sums it.granted it.reserved it.charged it.charged_then
-    (left_text it.granted it.reserved it.charged))
-
-unfoldable pub statement_page : Statement → List ℕ
-statement_page it =
+unfoldable pub statement_paper : Statement → List ℕ
+statement_paper it =
     statement_start it
-    ++ (sums it ++ (statement_jobs it ++ (html sheet_foot ++ END_OF_PAGE.now)))
+    ++ (sums it
+    ++ (statement_grants it ++ (statement_jobs it ++ (html sheet_foot ++ END_OF_PAGE.now))))
+
+-- the page, or the same rows as a table
+abbrev pub statement_in : Form → Statement → List ℕ
+statement_in Paper it = statement_paper it
+statement_in Csv it = statement_rows it
+
+abbrev pub statement_page : Statement → List ℕ
+statement_page it = statement_in it.form it

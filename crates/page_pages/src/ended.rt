@@ -73,7 +73,7 @@ pub(crate) fn put_ended_job(out: &mut Vec<u8>, job: &Job) -> Result<(), AllocErr
 }
 
 /// Gives the name of the device that had the job, or `none`.
-fn device_or_none(device: &Option<Name>) -> &[u8]
+pub(crate) fn device_or_none(device: &Option<Name>) -> &[u8]
     ensures { result.now ≡ device_or_none device.now }
 {
     match device {

@@ -337,19 +337,29 @@ pub(crate) const BACK_TO: &str = "Back to ";
 
 pub(crate) const DRAWN_UP: &str = "Drawn up ";
 
-pub(crate) const IN_THE_MONTH: &str = "Jobs that ended in the month";
+pub(crate) const AS_CSV: &str = "As a table (CSV)";
 
-pub(crate) const THEIR_NUMBER: &str = "Their number";
+pub(crate) const GRANTED_BEFORE: &str = "Granted for months before";
 
-pub(crate) const GRANTED_UP_TO: &str = "Granted up to the end of the month";
+pub(crate) const GIVEN_BACK: &str = "Of this given back";
 
-pub(crate) const CHARGED_IN: &str = "Charged in the month";
+pub(crate) const CHARGED_BEFORE: &str = "Less charged before";
 
-pub(crate) const CHARGED_SO_FAR: &str = "Charged in all, up to now";
+pub(crate) const OPENING: &str = "Balance at the beginning";
+
+pub(crate) const PLUS_GRANTED: &str = "Plus granted";
+
+pub(crate) const LESS_CHARGED: &str = "Less charged";
+
+pub(crate) const CLOSING: &str = "Balance at the end";
 
 pub(crate) const RESERVED_NOW: &str = "Reserved now, by jobs that are released";
 
-pub(crate) const LEFT_NOW: &str = "Left";
+pub(crate) const LEFT_NOW: &str = "Left now";
+
+pub(crate) const MONTH: &str = "Month";
+
+pub(crate) const JOBS_ENDED: &str = "Jobs that ended";
 
 // ---- the print room's page
 pub(crate) const OPERATORS: &str = "For operators";

@@ -44,8 +44,9 @@ module _ (db : Database) (has : HasSchema db) (name : List ℕ) (sound : IsSound
     ended = jobs_readable db has name sound Completed (Some most_shown);
     devices = (sound_rows_are_read.of_devices db has (devices tt)).listed;
   }
-  about_readable (StatementPage month drawn_up) devices = record {
-    statement = record { jobs = read.summed; grants = read.added month };
+  about_readable (StatementPage first last form drawn_up) devices = record {
+    quota = record { jobs = read.counted; grants = read.added last };
+    grants = read.by_month;
     ended = jobs_readable db has name sound Completed None;
   }
 

@@ -1,17 +1,18 @@
 -- Pages that are told: what was read is what they show.
-use Rattle.std.proofs.Common.{◌≡◌, ℕ, Bool, List, Option, Some, ap, ◌∙◌}
-use Rattle.std.specs.FinMap.{values}
+use Rattle.std.proofs.Common.{◌≡◌, ℕ, Bool, List, map, Option, Some, ap, ◌∙◌}
+use Rattle.std.specs.FinMap.{entries, values}
 use Rattle.account_machine.specs.declared.event.Reply.{Reply}
 use Rattle.account_machine.specs.declared.event.Reply.TheVariants.{Line}
 use Rattle.page_pages.specs.Owners.{owner_page}
 use Rattle.page_pages.specs.Statements.{statement_page}
 use Rattle.page_pages.specs.declared.outcome.Outcome.{Outcome}
 use Rattle.page_pages.specs.declared.owner.Owner.{Owner}
+use Rattle.page_pages.specs.declared.statement.Form.{Form}
 use Rattle.page_pages.specs.declared.statement.Statement.{Statement}
-use Rattle.account_questions.specs.Pages.{most_shown, owner_of, statement_of, statement_with}
-use Rattle.account_state.specs.Summaries.{summary_of}
-use Rattle.account_state.specs.declared.summary.Summary.{Summary}
+use Rattle.account_questions.specs.Pages.{most_shown, owner_of, statement_of}
+use Rattle.account_state.specs.Grants.{grant_of}
 use Rattle.account_rules.specs.Devices.{Devices}
+use Rattle.account_rules.specs.declared.account.Grant.{Grant}
 use Rattle.account_rules.specs.declared.device.Device.{Device}
 use Rattle.account_rules.specs.declared.job.Job.{Job}
 use Rattle.account_state.specs.Queues.{first_jobs, completed, not_completed}
@@ -42,9 +43,25 @@ module _ (account : List ℕ) (month : ℕ) (outcome : Option Outcome) (stays ne
   owner_told room devices granted reserved charged waiting ended listed page quota jobs all is =
       ap Line (is ∙ (λ i. owner_page (owner_with (quota.0 i) (quota.1 i) (quota.2 i) (jobs.0 i) (jobs.1 i) (all i))))
 
-pub statement_told : (account : List ℕ) (month drawn_up : ℕ) (room : RoomValue) (granted : ℕ) (summary : Summary) (ended : List Job) (statement : Statement) (page : List ℕ)
-    → (granted ≡ granted_to room month) × (summary ≡ summary_of month (values room.jobs)) → ended ≡ completed (values room.jobs)
-    → statement ≡ statement_with account month drawn_up granted summary ended → page ≡ statement_page statement
-    → ◌≡◌ {A = Reply} (Line page) (Line (statement_page (statement_of account month drawn_up room)))
-statement_told account month drawn_up room granted summary ended statement page told all shows is =
-    ap Line (is ∙ ap statement_page (shows ∙ (λ i. statement_with account month drawn_up (told.0 i) (told.1 i) (all i))))
+module _ (account : List ℕ) (first last : ℕ) (form : Form) (drawn_up : ℕ) where
+  abbrev pub statement_with : (granted reserved charged : ℕ) (grants : List Grant) (ended : List Job) → Statement
+  statement_with granted reserved charged grants ended = record {
+    account = account;
+    first = first;
+    last = last;
+    form = form;
+    drawn_up = drawn_up;
+    granted = granted;
+    reserved = reserved;
+    charged = charged;
+    grants = grants;
+    ended = ended;
+  }
+
+  pub statement_told : (room : RoomValue) (granted reserved charged : ℕ) (grants : List Grant) (ended : List Job) (page : List ℕ)
+      → (granted ≡ granted_to room last) × (reserved ≡ reserved_in room) × (charged ≡ charged_in room)
+      → (grants ≡ map grant_of (entries room.grants)) × (ended ≡ completed (values room.jobs))
+      → page ≡ statement_page (statement_with granted reserved charged grants ended)
+      → ◌≡◌ {A = Reply} (Line page) (Line (statement_page (statement_of account first last form drawn_up room)))
+  statement_told room granted reserved charged grants ended page quota moved is =
+      ap Line (is ∙ (λ i. statement_page (statement_with (quota.0 i) (quota.1 i) (quota.2 i) (moved.0 i) (moved.1 i))))

@@ -81,9 +81,10 @@ pub record OwnerPageIsReadable (name : List ℕ) (month : ℕ) (db : Database) :
   pub ended : JobsAreReadable name Completed (Some most_shown) db
   pub devices : CanBeListed db
 
--- a statement, and all jobs that have ended
+-- the quota, all grants, and all jobs that have ended
 pub record StatementPageIsReadable (name : List ℕ) (month : ℕ) (db : Database) : Type 0 where
-  pub statement : StatementIsReadable name month db
+  pub quota : SumsAreReadable name month db
+  pub grants : GrantsAreReadable name db
   pub ended : JobsAreReadable name Completed None db
 
 -- of an account that is open
@@ -96,7 +97,8 @@ AboutIsReadable name db Grants = GrantsAreReadable name db
 AboutIsReadable name db (Waiting device) = WaitingIsReadable name device db
 AboutIsReadable name db (Again device number) = AgainIsReadable name device number db
 AboutIsReadable name db (OwnerPage month outcome stays needs_password) = OwnerPageIsReadable name month db
-AboutIsReadable name db (StatementPage month drawn_up) = StatementPageIsReadable name month db
+AboutIsReadable name db (StatementPage first last form drawn_up) =
+    StatementPageIsReadable name last db
 
 -- of an account that is not open its own row alone is read
 pub record AccountIsAnswerable (name : List ℕ) (about : About) (db : Database) : Type 0 where

@@ -93,7 +93,7 @@ pub(crate) fn tell_statement<S: Alter>(
 }
 
 /// Reads what the account was granted up to the month, and what its jobs come to for the statement.
-pub(crate) fn read_statement<S: Alter>(
+fn read_statement<S: Alter>(
     connection: &mut Rounds<S>,
     account: Name,
     month: u32,

@@ -1,22 +1,24 @@
 //! Questions that are answered by web pages about one account: its owner's page, and its statement
-//! of a month. `questions` has asked before whether the account is open.
+//! of a month or a year. `questions` has asked before whether the account is open.
 
-ghost use Rattle.std.specs.Prelude.{◌≡◌, Some, None, Err, IfOk};
-ghost use Rattle.std.specs.FinMap.{values};
+ghost use Rattle.std.specs.Prelude.{◌≡◌, map, Some, None, Err, IfOk};
+ghost use Rattle.std.specs.FinMap.{entries, values};
 ghost use Rattle.account_asks.specs.declared.ask.Which.TheVariants.{NotCompleted, Completed};
 ghost use Rattle.account_questions.specs.Pages.{most_shown};
 ghost use Rattle.account_questions.specs.declared.question.About.TheVariants as about;
+ghost use Rattle.account_state.specs.Grants.{grant_of};
 ghost use Rattle.account_state.specs.Queues.{first_jobs, completed, not_completed};
 ghost use Rattle.room_store.specs.Prelude.{HoldsRoom, IfOurTables, LooksUp, RoomValue};
-ghost use Rattle.room_store.specs.Questions.{OwnerPageIsReadable, StatementPageIsReadable, TellsAbout};
+ghost use Rattle.room_store.specs.Questions.{GrantsAreReadable, OwnerPageIsReadable, StatementPageIsReadable, TellsAbout};
 ghost use Rattle.store_events.specs.Reading.{JobsAreReadable};
 
-use crate::about_account::{read_quota, read_statement};
+use crate::about_account::read_quota;
 use account_machine::{Job, Name, Reply};
-use account_questions::{MOST_SHOWN, owner_page, statement_page, statement_with};
+use account_questions::{MOST_SHOWN, owner_page, statement_page};
+use account_rules::Grant;
 use ipp_coding::List;
-use page_pages::{Outcome, Owner};
-use rows_statements::{ended_jobs, list_devices, unfinished_jobs};
+use page_pages::{Form, Outcome, Owner, Statement};
+use rows_statements::{ended_jobs, list_devices, list_grants, unfinished_jobs};
 use rows_tables::TableFault;
 use sqlite::Alter;
 use std::alloc::Global;
@@ -78,23 +80,56 @@ fn read_jobs<S: Alter>(
     Ok((waiting, ended))
 }
 
-/// Answers with the statement of a month as a page to be printed. `drawn_up` is the moment that it
-/// tells as its own.
+/// Answers with the statement of a month or a year. `drawn_up` is the moment that it tells as its
+/// own.
 pub(crate) fn tell_statement_page<S: Alter>(
     alloc: Global,
     connection: &mut Rounds<S>,
     account: Name,
-    month: u32,
+    first: u32,
+    last: u32,
+    form: Form,
     drawn_up: u64,
 ) -> Result<Reply, TableFault>
     ensures told { TellsAbout S.Store connection.old connection.new account
-        (about.StatementPage month drawn_up) result }
+        (about.StatementPage first last form drawn_up) result }
     ensures damaged { IfOurTables S.Store connection.old connection.new
-        (λ db. result ≡ Err TableFault.Damaged → StatementPageIsReadable account month db → ⊥) }
+        (λ db. result ≡ Err TableFault.Damaged → StatementPageIsReadable account last db → ⊥) }
     ensures looks { LooksUp S.Store connection.old connection.new result }
 {
-    let (granted, summary) = read_statement(connection, account, month)?;
-    let ended = ended_jobs(alloc, connection, account, None)?;
-    let statement = statement_with(account, month, drawn_up, granted, summary, ended);
+    let quota = read_quota(connection, account, last)?;
+    let (grants, ended) = read_movements(alloc, connection, account)?;
+    let statement = Statement {
+        account,
+        first,
+        last,
+        form,
+        drawn_up,
+        granted: quota.granted,
+        reserved: quota.reserved,
+        charged: quota.charged,
+        grants,
+        ended,
+    };
     Ok(Reply::Line(statement_page(alloc, &statement)?))
+}
+
+/// Reads what moved the account's units: all its grants, and all its jobs that have ended.
+fn read_movements<S: Alter>(
+    alloc: Global,
+    connection: &mut Rounds<S>,
+    account: Name,
+) -> Result<(List<Grant>, List<Job>), TableFault>
+    ensures told { IfOurTables S.Store connection.old connection.new (λ db.
+        (room : RoomValue) → HoldsRoom db account room → IfOk result (λ moved.
+        (moved.0 ≡ map grant_of (entries room.grants))
+        × (moved.1 ≡ completed (values room.jobs)))) }
+    ensures damaged { IfOurTables S.Store connection.old connection.new (λ db.
+        result ≡ Err TableFault.Damaged → GrantsAreReadable account db
+        → JobsAreReadable account Completed None db → ⊥) }
+    ensures looks { LooksUp S.Store connection.old connection.new result }
+{
+    let grants = list_grants(alloc, connection, account)?;
+    let ended = ended_jobs(alloc, connection, account, None)?;
+    Ok((grants, ended))
 }

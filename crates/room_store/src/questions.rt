@@ -183,8 +183,11 @@ fn tell_about<S: Alter>(
             stays,
             needs_password,
         ),
-        About::StatementPage { month, drawn_up } => {
-            tell_statement_page(alloc, connection, account, month, drawn_up)
-        }
+        About::StatementPage {
+            first,
+            last,
+            form,
+            drawn_up,
+        } => tell_statement_page(alloc, connection, account, first, last, form, drawn_up),
     }
 }

@@ -16,7 +16,7 @@ use Rattle.serve_peers.specs.declared.entry.Entry.TheVariants as entry
 use Rattle.serve_peers.specs.declared.http_peer.HttpPeer.{HttpPeer}
 use Rattle.page_pages.specs.declared.outcome.Act.{Act}
 use Rattle.serve_web.specs.Answers.{IsMessage, IsStill}
-use Rattle.serve_web.specs.Questions.{question_of}
+use Rattle.serve_web.specs.Questions.{kind_of, question_of}
 use Rattle.serve_web.specs.Requests.{asked as asks_of}
 use Rattle.serve_web.specs.Responses.{IsDone, IsLost as IsLostPage, IsShown}
 use Rattle.serve_sockets.specs.Questions.{AnswersBy}
@@ -42,7 +42,7 @@ module _ {S : Type 0} (store : Ghosts S) (first last : Held S) where
     pub wants : IsOkAnd (asks_of call.0)
         (λ asks. question ≡ question_of needs_password moment asks)
     pub told : Result Reply StoreFault
-    pub shows : IsShown (has_long_body call.0) told call.1 ⊎ IsLostPage call.1
+    pub shows : IsShown (kind_of question) (has_long_body call.0) told call.1 ⊎ IsLostPage call.1
     pub answers : AnswersBy store first last so_far question told
 
   -- Each act, and each file, is told what stands in the journal at the next of these places, which

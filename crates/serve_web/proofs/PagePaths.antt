@@ -12,21 +12,23 @@ use Rattle.http.specs.declared.request.Request.{Request}
 use Rattle.http_uri.specs.Uri.{uri_path}
 use Rattle.account_rules.specs.Names.{is_name}
 use Rattle.account_rules.specs.QueuePaths.{behind}
-use Rattle.input_fields.specs.Fields.{month_said}
 use Rattle.input_http.specs.Origins.{is_foreign}
 use Rattle.input_http.specs.Words.{before}
 use Rattle.page_pages.specs.declared.refusal.Refusal.{Refusal}
 use Rattle.page_pages.specs.declared.refusal.Refusal.TheVariants.{Forbidden}
 use Rattle.room_serve.specs.Paths.{IsDigit, IsName}
 use Rattle.room_serve.proofs.Paths.{Begins, all_again, all_are, before_begun, before_past, behind_again, behind_is, from, name_again, name_free, name_is, no_slash, whole, within, within_again}
-use Rattle.serve_web.specs.Queries.{act_in, behind_value, copies_in, counts_asked, owner_asked, pages_in, print_of, room_asked, room_of}
+use Rattle.serve_web.specs.Queries.{act_in, behind_value, copies_in, counts_asked, months_in, owner_asked, pages_in, print_of, room_asked, room_of, statement_asked}
 use Rattle.serve_web.specs.Requests.{asked_at, asked_if, body_refusal, foreign_or, judged, judged_if, other_method, query_of, takes, unless, wish}
 use Rattle.serve_web.specs.declared.asked.Asked.{Asked}
 use Rattle.serve_web.specs.declared.asked.Asked.TheVariants as asked_is
 use Rattle.serve_web.specs.Numbers.{is_number, number_said}
 use Rattle.serve_web.specs.Places.{job_in, place_behind, place_in, place_of}
+use Rattle.page_pages.specs.declared.statement.Form.{Form}
+use Rattle.page_pages.specs.declared.statement.Form.TheVariants.{Paper, Csv}
+use Rattle.serve_web.specs.declared.asked.Months.{Months}
 use Rattle.serve_web.specs.declared.place.Place.{Place}
-use Rattle.serve_web.specs.declared.place.Place.TheVariants.{Room, Style, Script, Owner, Statement, Print, Job}
+use Rattle.serve_web.specs.declared.place.Place.TheVariants.{Room, Style, Script, Owner, Statement, Table, Print, Job}
 use Rattle.serve_web.specs.PagePaths.{AsksByItsPath, IsOf, LeadsTo, PathsAreSpelled, PathsLead, SaysJob, place_for}
 
 -- ---- options
@@ -56,6 +58,9 @@ job_is digits job said =
 abbrev print_or : (account part : List ℕ) → Option Place
 print_or account part = cond (bytes_eq part (codes "/print")) (Some (Print account)) (option_and_then (job_in account) (behind (codes "/") part))
 
+abbrev table_or : (account part : List ℕ) → Option Place
+table_or account part = cond (bytes_eq part (codes "/statement.csv")) (Some (Table account)) (print_or account part)
+
 in_leads : (path account part : List ℕ) (place : Place) → IsName account → path ≡ codes "/" ++ (account ++ part) → place_in account part ≡ Some place → LeadsTo path place
 in_leads path account part place name is said = owner (first_or (bytes_eq part (codes "")) (Owner account) place _ said)
   where
@@ -74,11 +79,15 @@ in_leads path account part place name is said = owner (first_or (bytes_eq part (
     print (inl same) = subst (LeadsTo path) same.1 (by_bytes (codes "/print") same.0)
     print (inr told) = job told
 
-    statement : ((bytes_eq part (codes "/statement") ≡ true) × (Statement account ≡ place)) ⊎ (print_or account part ≡ Some place) → LeadsTo path place
-    statement (inl same) = subst (LeadsTo path) same.1 (by_bytes (codes "/statement") same.0)
-    statement (inr told) = print (first_or (bytes_eq part (codes "/print")) (Print account) place _ told)
+    table : ((bytes_eq part (codes "/statement.csv") ≡ true) × (Table account ≡ place)) ⊎ (print_or account part ≡ Some place) → LeadsTo path place
+    table (inl same) = subst (LeadsTo path) same.1 (by_bytes (codes "/statement.csv") same.0)
+    table (inr told) = print (first_or (bytes_eq part (codes "/print")) (Print account) place _ told)
 
-    owner : ((bytes_eq part (codes "") ≡ true) × (Owner account ≡ place)) ⊎ (cond (bytes_eq part (codes "/statement")) (Some (Statement account)) (print_or account part) ≡ Some place) → LeadsTo path place
+    statement : ((bytes_eq part (codes "/statement") ≡ true) × (Statement account ≡ place)) ⊎ (table_or account part ≡ Some place) → LeadsTo path place
+    statement (inl same) = subst (LeadsTo path) same.1 (by_bytes (codes "/statement") same.0)
+    statement (inr told) = table (first_or (bytes_eq part (codes "/statement.csv")) (Table account) place _ told)
+
+    owner : ((bytes_eq part (codes "") ≡ true) × (Owner account ≡ place)) ⊎ (cond (bytes_eq part (codes "/statement")) (Some (Statement account)) (table_or account part) ≡ Some place) → LeadsTo path place
     owner (inl same) = subst (LeadsTo path) same.1 (by_bytes (codes "") same.0)
     owner (inr told) = statement (first_or (bytes_eq part (codes "/statement")) (Statement account) place _ told)
 
@@ -160,6 +169,7 @@ number_again digits job is =
 job_again : (account digits : List ℕ) (job : ℕ) → SaysJob digits job → place_in account (codes "/" ++ digits) ≡ Some (Job account job)
 job_again account digits job is =
     cond-false _ _ _ (is_no_word digits (codes "statement") (digits_pass digits job is) refl)
+    ∙ cond-false _ _ _ (is_no_word digits (codes "statement.csv") (digits_pass digits job is) refl)
     ∙ cond-false _ _ _ (is_no_word digits (codes "print") (digits_pass digits job is) refl)
     ∙ ap (option_and_then (job_in account)) (behind_again (codes "/") digits)
     ∙ ap (option_map (λ (n : ℕ). Job account n)) (number_again digits job is)
@@ -170,6 +180,7 @@ paths_lead path Style is = ap place_of is
 paths_lead path Script is = ap place_of is
 paths_lead path (Owner account) is = path_again account (codes "") path (Owner account) is tt refl
 paths_lead path (Statement account) is = path_again account (codes "/statement") path (Statement account) is refl refl
+paths_lead path (Table account) is = path_again account (codes "/statement.csv") path (Table account) is refl refl
 paths_lead path (Print account) is = path_again account (codes "/print") path (Print account) is refl refl
 paths_lead path (Job account job) is = path_again account (codes "/" ++ is.0) path (Job account job) is.2 refl (job_again account is.0 job is.1)
 
@@ -185,16 +196,28 @@ print_is account rest it said =
     option_and_then_some (print_of account pages) (copies_in (before 38 rest)) it said (λ copies found is.
     mapped (λ (count : Option ℕ). asked_is.Print account copies count) pages it is (λ count counted same. ap place_for (sym same)))
 
+statement_place : (account : List ℕ) → Form → Place
+statement_place account Paper = Statement account
+statement_place account Csv = Table account
+
+of_form : (account : List ℕ) (form : Form) (months : Option Months) → place_for (asked_is.Statement account form months) ≡ statement_place account form
+of_form account Paper months = refl
+of_form account Csv months = refl
+
+statement_is : (account : List ℕ) (form : Form) (query : List ℕ) (it : Asked) → statement_asked account form query ≡ Some it → place_for it ≡ statement_place account form
+statement_is account form query it said = by (first_or (bytes_eq query (codes "")) (asked_is.Statement account form None) it _ said)
+  where
+    by : ((bytes_eq query (codes "") ≡ true) × (asked_is.Statement account form None ≡ it)) ⊎ (option_map (λ (months : Months). asked_is.Statement account form (Some months)) (months_in query) ≡ Some it) → place_for it ≡ statement_place account form
+    by (inl same) = ap place_for (sym same.1) ∙ of_form account form None
+    by (inr told) = mapped (λ (months : Months). asked_is.Statement account form (Some months)) (months_in query) it told (λ months found same. ap place_for (sym same) ∙ of_form account form (Some months))
+
 wished : (request : Request (List ℕ)) (place : Place) (it : Asked) → wish request place ≡ Some it → place_for it ≡ place
 wished request Room it said = ap place_for (sym (same_Some (room_asked (query_of request)) it said)) ∙ room_is (behind (codes "front=") (query_of request))
 wished request Style it said = ap place_for (sym (same_Some asked_is.Style it said))
 wished request Script it said = ap place_for (sym (same_Some asked_is.Script it said))
 wished request (Owner account) it said = ap place_for (sym (same_Some (owner_asked account (query_of request)) it said))
-wished request (Statement account) it said = by (first_or (bytes_eq (query_of request) (codes "")) (asked_is.Statement account None) it _ said)
-  where
-    by : ((bytes_eq (query_of request) (codes "") ≡ true) × (asked_is.Statement account None ≡ it)) ⊎ (option_map (λ (month : ℕ). asked_is.Statement account (Some month)) (option_and_then month_said (behind (codes "month=") (query_of request))) ≡ Some it) → place_for it ≡ Statement account
-    by (inl same) = ap place_for (sym same.1)
-    by (inr told) = mapped (λ (month : ℕ). asked_is.Statement account (Some month)) (option_and_then month_said (behind (codes "month=") (query_of request))) it told (λ month found same. ap place_for (sym same))
+wished request (Statement account) it said = statement_is account Paper (query_of request) it said
+wished request (Table account) it said = statement_is account Csv (query_of request) it said
 wished request (Print account) it said =
     option_and_then_some (counts_asked account) (option_and_then (behind_value (codes "&copies=")) (behind (codes "name=") (query_of request))) it said (λ rest found is. print_is account rest it is)
 wished request (Job account job) it said =

@@ -30,7 +30,7 @@ use Rattle.serve_web.specs.Fields.{page_fields, sheet_fields}
 use Rattle.input_lines.specs.OwnerRequests.{queue_uri}
 use Rattle.serve_web.specs.Messages.{IsFileMessage, lacks_password}
 use Rattle.serve_web.specs.Hosts.{is_answered}
-use Rattle.serve_web.specs.Questions.{question_of}
+use Rattle.serve_web.specs.Questions.{kind_of, question_of}
 use Rattle.serve_web.specs.Requests.{asked}
 use Rattle.serve_web.specs.Responses.{IsDone, IsLost, IsRefusal, IsShown}
 use Rattle.serve_web.specs.Outcomes.{page_act}
@@ -104,7 +104,7 @@ module _ {S : Type 0} (store : Ghosts S) where
       (new : Served S) : Type 0 where
     pub told : Result Reply StoreFault
     pub next : AnswersNext store question told old new
-    pub tells : IsShown closes told response ⊎ IsLost response
+    pub tells : IsShown (kind_of question) closes told response ⊎ IsLost response
 
   -- the message is applied, once, at the moment, and stands in the journal; what came of it is told
   pub record Applies (account : List ℕ) (act : PageAct) (job : ℕ) (message : List ℕ) (closes : Bool)
@@ -165,8 +165,8 @@ module _ {S : Type 0} (store : Ghosts S) where
   AnswersAsked (Owner account came stays) old request response new =
       Shows (question_of (needs_password_of old) (moment_of old) (Owner account came stays))
       (has_long_body request) old response new
-  AnswersAsked (Statement account month) old request response new =
-      Shows (question_of (needs_password_of old) (moment_of old) (Statement account month))
+  AnswersAsked (Statement account form months) old request response new =
+      Shows (question_of (needs_password_of old) (moment_of old) (Statement account form months))
       (has_long_body request) old response new
   AnswersAsked (Act account act job) old request response new =
       ActsOn account act job (has_long_body request) old response new

@@ -22,6 +22,10 @@ safe_fields closes =
 abbrev pub common_fields : (closes : Bool) → List Field
 common_fields closes = (codes "cache-control", codes "no-store") ∷ safe_fields closes
 
+-- of what a question is answered with
+abbrev pub shown_fields : (kind : List ℕ) (closes : Bool) → List Field
+shown_fields kind closes = (codes "content-type", kind) ∷ common_fields closes
+
 abbrev pub page_fields : (closes : Bool) → List Field
 page_fields closes =
     (codes "content-type", codes "text/html; charset=utf-8") ∷ common_fields closes

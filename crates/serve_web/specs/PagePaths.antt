@@ -8,10 +8,11 @@ use Rattle.http_uri.specs.Uri.{uri_path}
 use Rattle.room_serve.specs.Paths.{IsDigit, IsName}
 use Rattle.serve_web.specs.Places.{place_of}
 use Rattle.serve_web.specs.Requests.{asked}
+use Rattle.page_pages.specs.declared.statement.Form.TheVariants.{Paper, Csv}
 use Rattle.serve_web.specs.declared.asked.Asked.{Asked}
 use Rattle.serve_web.specs.declared.asked.Asked.TheVariants as asked_is
 use Rattle.serve_web.specs.declared.place.Place.{Place}
-use Rattle.serve_web.specs.declared.place.Place.TheVariants.{Room, Style, Script, Owner, Statement, Print, Job}
+use Rattle.serve_web.specs.declared.place.Place.TheVariants.{Room, Style, Script, Owner, Statement, Table, Print, Job}
 
 -- 1 to 8 digits, and what they count
 pub record SaysJob (digits : List ℕ) (job : ℕ) : Type 0 where
@@ -31,6 +32,7 @@ LeadsTo path Style = path ≡ codes "/style.css"
 LeadsTo path Script = path ≡ codes "/print.js"
 LeadsTo path (Owner account) = IsOf account (codes "") path
 LeadsTo path (Statement account) = IsOf account (codes "/statement") path
+LeadsTo path (Table account) = IsOf account (codes "/statement.csv") path
 LeadsTo path (Print account) = IsOf account (codes "/print") path
 LeadsTo path (Job account job) =
     (digits : List ℕ) × SaysJob digits job × IsOf account (codes "/" ++ digits) path
@@ -41,7 +43,8 @@ place_for asked_is.Style = Style
 place_for asked_is.Script = Script
 place_for (asked_is.Room front behind) = Room
 place_for (asked_is.Owner account came stays) = Owner account
-place_for (asked_is.Statement account month) = Statement account
+place_for (asked_is.Statement account Paper months) = Statement account
+place_for (asked_is.Statement account Csv months) = Table account
 place_for (asked_is.Act account act job) = Job account job
 place_for (asked_is.Print account copies pages) = Print account
 

@@ -5,7 +5,7 @@ use Rattle.account_rules.specs.Names.{is_name}
 use Rattle.account_rules.specs.QueuePaths.{behind}
 use Rattle.serve_web.specs.Numbers.{number_said}
 use Rattle.serve_web.specs.declared.place.Place.{Place}
-use Rattle.serve_web.specs.declared.place.Place.TheVariants.{Room, Style, Script, Owner, Statement, Print, Job}
+use Rattle.serve_web.specs.declared.place.Place.TheVariants.{Room, Style, Script, Owner, Statement, Table, Print, Job}
 
 -- the number of a job
 abbrev pub job_in : (account digits : List ℕ) → Option Place
@@ -16,6 +16,7 @@ abbrev pub place_in : (account part : List ℕ) → Option Place
 place_in account part =
     if bytes_eq part (codes "") then Some (Owner account)
     else if bytes_eq part (codes "/statement") then Some (Statement account)
+    else if bytes_eq part (codes "/statement.csv") then Some (Table account)
     else if bytes_eq part (codes "/print") then Some (Print account)
     else option_and_then (job_in account) (behind (codes "/") part)
 

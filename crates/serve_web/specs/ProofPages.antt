@@ -88,7 +88,7 @@ module _ {S : Type 0} (store : Ghosts S) where
   asked_comes asked_is.Script old request response new is = inr (inr (inr (inr (inl is.0)), same_gathered old new is.1))
   asked_comes (asked_is.Room front behind) old request response new is = inr (inr (inr (inr (inr (shown_of old, gathers (gathered_of old), is.0))), (asked_at (moment_of old) (gathered_of old), is.1)))
   asked_comes (asked_is.Owner account came still) old request response new is = inr (inl (record { asks = asked_is.Owner account came still; wanted = refl; shows = is }))
-  asked_comes (asked_is.Statement account month) old request response new is = inr (inl (record { asks = asked_is.Statement account month; wanted = refl; shows = is }))
+  asked_comes (asked_is.Statement account form months) old request response new is = inr (inl (record { asks = asked_is.Statement account form months; wanted = refl; shows = is }))
   asked_comes (asked_is.Act account act job) old request response new is = inl (record {
     asks = asked_is.Act account act job;
     wanted = refl;

@@ -1,7 +1,7 @@
 -- Rule: What the query of a page or the form of an act says. Each field is `NAME=VALUE`, `&` stands
 -- between two, and they come in one order (all this project's own; the order is that in which the
 -- pages and their script write them).
-use Rattle.std.specs.Prelude.{ℕ, ◌||◌, ◌==◌, List, length, drop, nat_lt, Option, Some, None, codes, bytes_eq, if◌then◌else◌, option_and_then, option_map}
+use Rattle.std.specs.Prelude.{ℕ, ◌+◌, ◌*◌, ◌||◌, ◌==◌, not, List, length, drop, nat_lt, Option, Some, None, codes, bytes_eq, if◌then◌else◌, option_and_then, option_map}
 use Rattle.input_fields.specs.Fields.{month_said}
 use Rattle.client_owner.specs.declared.acts.JobAct.{JobAct}
 use Rattle.client_owner.specs.declared.acts.JobAct.TheVariants as job_act
@@ -11,6 +11,8 @@ use Rattle.account_rules.specs.Names.{is_name}
 use Rattle.account_rules.specs.QueuePaths.{behind}
 use Rattle.serve_web.specs.OutcomeQueries.{came_in}
 use Rattle.serve_web.specs.Numbers.{number_said}
+use Rattle.page_pages.specs.declared.statement.Form.{Form}
+use Rattle.serve_web.specs.declared.asked.Months.{Months}
 use Rattle.serve_web.specs.declared.asked.Asked.{Asked}
 use Rattle.serve_web.specs.declared.asked.Asked.TheVariants.{Room, Owner, Statement, Act, Print}
 
@@ -44,13 +46,35 @@ room_asked query = room_of (behind (codes "front=") query)
 abbrev pub owner_asked : (account query : List ℕ) → Asked
 owner_asked account query = Owner account (came_in query) (bytes_eq query (codes "still"))
 
--- ---- a statement: month, or nothing for the month that it is
+-- ---- a statement: month, year, or nothing for the month that it is
 
-abbrev pub statement_asked : (account query : List ℕ) → Option Asked
-statement_asked account query =
-    if bytes_eq query (codes "") then Some (Statement account None)
-    else option_map (λ month. Statement account (Some month))
-    (option_and_then month_said (behind (codes "month=") query))
+abbrev pub months_of : (first last : ℕ) → Months
+months_of first last = record { first = first; last = last }
+
+abbrev pub month_in : (text : List ℕ) → Option Months
+month_in text = option_map (λ month. months_of month month) (month_said text)
+
+-- the twelve months of a year from 1970 to 2099
+abbrev pub year_of : (year : ℕ) → Option Months
+year_of year =
+    if nat_lt year 1970 || nat_lt 2099 year then None
+    else Some (months_of (year * 12) (year * 12 + 11))
+
+-- four digits
+abbrev pub year_in : (text : List ℕ) → Option Months
+year_in text = if not (length text == 4) then None else option_and_then year_of (number_said text)
+
+abbrev pub months_or : (month : Option (List ℕ)) (query : List ℕ) → Option Months
+months_or (Some text) query = month_in text
+months_or None query = option_and_then year_in (behind (codes "year=") query)
+
+abbrev pub months_in : (query : List ℕ) → Option Months
+months_in query = months_or (behind (codes "month=") query) query
+
+abbrev pub statement_asked : (account : List ℕ) (form : Form) (query : List ℕ) → Option Asked
+statement_asked account form query =
+    if bytes_eq query (codes "") then Some (Statement account form None)
+    else option_map (λ months. Statement account form (Some months)) (months_in query)
 
 -- ---- what is to be done with a job: act
 

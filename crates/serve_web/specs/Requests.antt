@@ -15,7 +15,8 @@ use Rattle.serve_web.specs.Queries.{act_asked, owner_asked, print_asked, room_as
 use Rattle.serve_web.specs.declared.asked.Asked.{Asked}
 use Rattle.serve_web.specs.declared.asked.Asked.TheVariants as asked_is
 use Rattle.serve_web.specs.declared.place.Place.{Place}
-use Rattle.serve_web.specs.declared.place.Place.TheVariants.{Room, Style, Script, Owner, Statement, Print, Job}
+use Rattle.serve_web.specs.declared.place.Place.TheVariants.{Room, Style, Script, Owner, Statement, Table, Print, Job}
+use Rattle.page_pages.specs.declared.statement.Form.TheVariants.{Paper, Csv}
 use Rattle.page_pages.specs.declared.refusal.Refusal.{Refusal}
 use Rattle.page_pages.specs.declared.refusal.Refusal.TheVariants.{BadRequest, Forbidden, NotFound, OnlyRead, OnlyPost, TooLarge, WrongType}
 
@@ -30,7 +31,8 @@ wish request Room = Some (room_asked (query_of request))
 wish request Style = Some asked_is.Style
 wish request Script = Some asked_is.Script
 wish request (Owner account) = Some (owner_asked account (query_of request))
-wish request (Statement account) = statement_asked account (query_of request)
+wish request (Statement account) = statement_asked account Paper (query_of request)
+wish request (Table account) = statement_asked account Csv (query_of request)
 wish request (Print account) = print_asked account (query_of request)
 wish request (Job account job) = act_asked account job (body_of request)
 

@@ -10,7 +10,7 @@ use Rattle.page_pages.specs.Refusals.{refusal_page}
 use Rattle.page_pages.specs.declared.outcome.Outcome.{Outcome}
 use Rattle.store_rounds.specs.declared.fault.StoreFault.{StoreFault}
 use Rattle.serve_web.specs.OutcomeQueries.{outcome_text}
-use Rattle.serve_web.specs.Fields.{common_fields, more_fields, page_fields}
+use Rattle.serve_web.specs.Fields.{common_fields, more_fields, page_fields, shown_fields}
 use Rattle.serve_web.specs.Refusals.{status_of}
 use Rattle.serve_web.specs.Outcomes.{outcome_told}
 use Rattle.page_pages.specs.declared.refusal.Refusal.{Refusal}
@@ -29,19 +29,20 @@ IsLost = IsResponse 500 [] []
 abbrev pub is_no_account : (text : List ℕ) → Bool
 is_no_account text = bytes_eq text (codes "no-account")
 
-abbrev pub IsPageIf : (is_none : Bool) (closes : Bool) (text : List ℕ) → Response → Type 0
-IsPageIf true closes text = IsRefusal NotFound closes
-IsPageIf false closes text = IsResponse 200 (page_fields closes) text
+abbrev pub IsPageIf : (is_none : Bool) (kind : List ℕ) (closes : Bool) (text : List ℕ) → Response
+    → Type 0
+IsPageIf true kind closes text = IsRefusal NotFound closes
+IsPageIf false kind closes text = IsResponse 200 (shown_fields kind closes) text
 
--- the page, or 404 where the account is not open
-abbrev pub IsPage : (closes : Bool) (text : List ℕ) → Response → Type 0
-IsPage closes text = IsPageIf (is_no_account text) closes text
+-- the page or the table, or 404 where the account is not open
+abbrev pub IsPage : (kind : List ℕ) (closes : Bool) (text : List ℕ) → Response → Type 0
+IsPage kind closes text = IsPageIf (is_no_account text) kind closes text
 
--- the page that a question was answered with, and 500 for any fault of the store
-abbrev pub IsShown : (closes : Bool) → Result Reply StoreFault → Response → Type 0
-IsShown closes (Ok (reply_is.Line text)) = IsPage closes text
-IsShown closes (Ok other) = IsRefusal Failed closes
-IsShown closes (Err fault) = IsRefusal Failed closes
+-- what a question was answered with, under its Content-Type, and 500 for any fault of the store
+abbrev pub IsShown : (kind : List ℕ) (closes : Bool) → Result Reply StoreFault → Response → Type 0
+IsShown kind closes (Ok (reply_is.Line text)) = IsPage kind closes text
+IsShown kind closes (Ok other) = IsRefusal Failed closes
+IsShown kind closes (Err fault) = IsRefusal Failed closes
 
 -- the owner's page, with what came of an act in its query
 unfoldable pub location : (account : List ℕ) → Outcome → List ℕ

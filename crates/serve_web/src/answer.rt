@@ -5,7 +5,9 @@ ghost use Rattle.http_server.specs.Response.{IsBlank, IsResponse};
 ghost use Rattle.serve_web.specs.Responses.{IsDone, IsLost, IsPage, IsRedirect, IsRefusal, IsShown, is_no_account, is_not_open, location, tells_no_account};
 ghost use Rattle.serve_web.specs.Fields.{sheet_fields};
 
-use crate::fields::{put_common_fields, put_more_fields, put_page_fields, put_sheet_fields};
+use crate::fields::{
+    put_common_fields, put_more_fields, put_page_fields, put_sheet_fields, put_shown_fields,
+};
 use crate::outcome::outcome_told;
 use crate::outcome_query::put_outcome;
 use crate::refusal::status_of;
@@ -54,13 +56,19 @@ pub(crate) fn put_sheet(
     response.body.push(Bytes::from_static(text.as_bytes()))
 }
 
-/// Answers with the page that the store gave, or `500 Internal Server Error` where there is no
-/// memory for it.
-pub(crate) fn show(response: &mut Response, told: Result<Reply, StoreFault>, closes: bool)
-    requires { IsBlank response.old }
-    ensures { IsShown closes told response.new ⊎ IsLost response.new }
+/// Answers with the page or the table that the store gave, or `500 Internal Server Error` where
+/// there is no memory for it. `kind` is its Content-Type.
+pub(crate) fn show(
+    response: &mut Response,
+    kind: &'static str,
+    told: Result<Reply, StoreFault>,
+    closes: bool,
+)
+    requires blank { IsBlank response.old }
+    requires kind { IsTrue (is_visible_text kind.now) }
+    ensures { IsShown kind.now closes told response.new ⊎ IsLost response.new }
 {
-    if put_shown(response, told, closes).is_err() {
+    if put_shown(response, kind, told, closes).is_err() {
         lose(response);
     }
 }
@@ -68,14 +76,16 @@ pub(crate) fn show(response: &mut Response, told: Result<Reply, StoreFault>, clo
 /// Answers with the page, or with the refusal `Failed` where the store gave something else.
 fn put_shown(
     response: &mut Response,
+    kind: &'static str,
     told: Result<Reply, StoreFault>,
     closes: bool,
 ) -> Result<(), AllocError>
-    requires { IsBlank response.old }
-    ensures { OnOk result (IsShown closes told response.new) }
+    requires blank { IsBlank response.old }
+    requires kind { IsTrue (is_visible_text kind.now) }
+    ensures { OnOk result (IsShown kind.now closes told response.new) }
 {
     match told {
-        Ok(Reply::Line(text)) => put_page(response, text.items, closes),
+        Ok(Reply::Line(text)) => put_page(response, kind, text.items, closes),
         Ok(Reply::Ipp(_)) => refuse(response, Refusal::Failed, closes),
         Ok(Reply::NoAccount) => refuse(response, Refusal::Failed, closes),
         Ok(Reply::Documents(_)) => refuse(response, Refusal::Failed, closes),
@@ -84,17 +94,23 @@ fn put_shown(
     }
 }
 
-/// Answers with a page, whose bytes are moved and not copied. Of an account that is not open there
-/// is none, which is refused.
-fn put_page(response: &mut Response, text: Vec<u8>, closes: bool) -> Result<(), AllocError>
-    requires { IsBlank response.old }
-    ensures { OnOk result (IsPage closes text.items response.new) }
+/// Answers with a page or a table, whose bytes are moved and not copied. Of an account that is not
+/// open there is none, which is refused.
+fn put_page(
+    response: &mut Response,
+    kind: &'static str,
+    text: Vec<u8>,
+    closes: bool,
+) -> Result<(), AllocError>
+    requires blank { IsBlank response.old }
+    requires kind { IsTrue (is_visible_text kind.now) }
+    ensures { OnOk result (IsPage kind.now closes text.items response.new) }
 {
     if is_no_account(text.as_slice()) {
         refuse(response, Refusal::NotFound, closes)?;
         return Ok(());
     }
-    put_page_fields(response, closes)?;
+    put_shown_fields(response, kind, closes)?;
     response.body.push(shared(text)?)?;
     Ok(())
 }

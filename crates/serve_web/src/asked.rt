@@ -9,7 +9,14 @@ use bytes::Bytes;
 use client_owner::JobAct;
 use http::{HeaderValue, Request};
 use input_http::{before, is_foreign, is_post, without_margin};
-use page_pages::{Outcome, Refusal};
+use page_pages::{Form, Outcome, Refusal};
+
+/// The months of a statement: one, or the twelve of a year.
+#[derive(Clone, Copy)]
+pub(crate) struct Months {
+    pub(crate) first: u32,
+    pub(crate) last: u32,
+}
 
 /// What a request of a browser asks for.
 #[derive(Clone, Copy)]
@@ -31,10 +38,11 @@ pub(crate) enum Asked {
         came: Option<Outcome>,
         stays: bool,
     },
-    /// A statement of a month, or with `None` of the month that it is.
+    /// A statement of these months, or with `None` of the month that it is.
     Statement {
         account: Name,
-        month: Option<u32>,
+        form: Form,
+        months: Option<Months>,
     },
     /// To release, hold or cancel a job.
     Act {
@@ -131,7 +139,8 @@ fn wish(request: &Request<Bytes>, place: &Place) -> Option<Asked>
         Place::Style => Some(Asked::Style),
         Place::Script => Some(Asked::Script),
         Place::Owner(account) => Some(owner_asked(*account, query_of(request))),
-        Place::Statement(account) => statement_asked(*account, query_of(request)),
+        Place::Statement(account) => statement_asked(*account, Form::Paper, query_of(request)),
+        Place::Table(account) => statement_asked(*account, Form::Csv, query_of(request)),
         Place::Print(account) => print_asked(*account, query_of(request)),
         Place::Job { account, job } => act_asked(*account, *job, request.body().as_slice()),
     }

@@ -2,7 +2,7 @@
 ghost use Rattle.std.specs.Prelude.{◌≡◌, ◌++◌, ◌∷◌, [], IsTrue, OnOk};
 ghost use Rattle.http_header.specs.FieldValue.{is_visible_text};
 ghost use Rattle.http_server.specs.Response.{fields_of};
-ghost use Rattle.serve_web.specs.Fields.{common_fields, more_fields, page_fields, policy_fields, safe_fields, sheet_fields};
+ghost use Rattle.serve_web.specs.Fields.{common_fields, more_fields, page_fields, policy_fields, safe_fields, sheet_fields, shown_fields};
 
 use http::{HeaderValue, header};
 use http_server::Response;
@@ -21,6 +21,25 @@ pub(crate) fn put_page_fields(response: &mut Response, closes: bool) -> Result<(
 {
     let kind = HeaderValue::from_static("text/html; charset=utf-8");
     response.add_header(header::CONTENT_TYPE, kind)?;
+    put_common_fields(response, closes)?;
+    Ok(())
+}
+
+/// Adds the fields of what a question is answered with, which a browser is not to keep. `kind` is
+/// the Content-Type.
+#[tactic(auto, using(std::proofs::Common::append_assoc))]
+pub(crate) fn put_shown_fields(
+    response: &mut Response,
+    kind: &'static str,
+    closes: bool,
+) -> Result<(), AllocError>
+    requires { IsTrue (is_visible_text kind.now) }
+    ensures status { response.new.status ≡ response.old.status }
+    ensures body { response.new.body ≡ response.old.body }
+    ensures fields { OnOk result
+        (fields_of response.new ≡ fields_of response.old ++ shown_fields kind.now closes) }
+{
+    response.add_header(header::CONTENT_TYPE, HeaderValue::from_static(kind))?;
     put_common_fields(response, closes)?;
     Ok(())
 }

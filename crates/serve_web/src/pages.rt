@@ -14,7 +14,7 @@ use crate::fields::put_page_fields;
 use crate::host::is_answered;
 use crate::message::{act_message, file_message, lacks_password};
 use crate::outcome::page_act;
-use crate::questions::question_of;
+use crate::questions::{kind_of, question_of};
 use crate::refusal::status_of;
 use account_rules::Name;
 use bytes::Bytes;
@@ -168,8 +168,9 @@ fn show_page<S: Alter>(served: &mut Served<S>, asked: &Asked, closes: bool, resp
         served.old response.new served.new }
 {
     let question = question_of(served.needs_password(), served.moment(), asked);
+    let kind = kind_of(&question);
     let told = served.answer_question(question);
-    show(response, told, closes);
+    show(response, kind, told, closes);
 }
 
 /// Does an act on a job, as one IPP message.

@@ -17,8 +17,10 @@ pub(crate) enum Place {
     Script,
     /// The page of an account's owner.
     Owner(Name),
-    /// A statement of an account.
+    /// A statement of an account, as a page.
     Statement(Name),
+    /// A statement of an account, as a table.
+    Table(Name),
     /// Where a file is handed in.
     Print(Name),
     /// A job, on which an act is to be done.
@@ -49,7 +51,8 @@ fn place_behind(rest: &[u8]) -> Option<Place>
     place_in(Name::read(name)?, &rest[name.len()..])
 }
 
-/// Reads what follows the account in a path: nothing, `/statement`, `/print` or a job.
+/// Reads what follows the account in a path: nothing, `/statement`,
+/// `/statement.csv`, `/print` or a job.
 fn place_in(account: Name, part: &[u8]) -> Option<Place>
     ensures { result ≡ place_in account part.now }
 {
@@ -58,6 +61,9 @@ fn place_in(account: Name, part: &[u8]) -> Option<Place>
     }
     if part == b"/statement".as_slice() {
         return Some(Place::Statement(account));
+    }
+    if part == b"/statement.csv".as_slice() {
+        return Some(Place::Table(account));
     }
     if part == b"/print".as_slice() {
         return Some(Place::Print(account));

@@ -1,14 +1,15 @@
 //! Reads the query of a page, and the form of an act.
 ghost use Rattle.std.specs.Prelude.{◌≡◌};
-ghost use Rattle.serve_web.specs.Queries.{act_asked, act_in, behind_in, copies_in, counts_asked, owner_asked, pages_in, print_asked, room_asked, room_behind, statement_asked};
+ghost use Rattle.serve_web.specs.Queries.{act_asked, act_in, behind_in, copies_in, counts_asked, month_in, months_in, owner_asked, pages_in, print_asked, room_asked, room_behind, statement_asked, year_in, year_of};
 
-use crate::asked::Asked;
+use crate::asked::{Asked, Months};
 use crate::digits::number;
 use crate::outcome_query::came_in;
 use account_rules::{MOST_COPIES, Name};
 use client_owner::JobAct;
 use input_fields::month;
 use input_http::before;
+use page_pages::Form;
 
 /// Reads the query of the print room's page: `front=TEXT`, with which the names of the listed
 /// accounts begin, and `&behind=NAME`, behind which they come.
@@ -54,20 +55,67 @@ pub(crate) fn owner_asked(account: Name, query: &[u8]) -> Asked
     }
 }
 
-/// Reads the query of a statement: `month=YYYY-MM`, or nothing for the month that it is.
-pub(crate) fn statement_asked(account: Name, query: &[u8]) -> Option<Asked>
-    ensures { result ≡ statement_asked account query.now }
+/// Reads the query of a statement: `month=YYYY-MM`, `year=YYYY`, or nothing for the month that it
+/// is.
+pub(crate) fn statement_asked(account: Name, form: Form, query: &[u8]) -> Option<Asked>
+    ensures { result ≡ statement_asked account form query.now }
 {
     if query.is_empty() {
         return Some(Asked::Statement {
             account,
-            month: None,
+            form,
+            months: None,
         });
     }
-    let month = month(query.strip_prefix(b"month=".as_slice())?)?;
+    let months = months_in(query)?;
     Some(Asked::Statement {
         account,
-        month: Some(month),
+        form,
+        months: Some(months),
+    })
+}
+
+/// Reads the month or the year of a statement.
+fn months_in(query: &[u8]) -> Option<Months>
+    ensures { result ≡ months_in query.now }
+{
+    match query.strip_prefix(b"month=".as_slice()) {
+        Some(text) => month_in(text),
+        None => year_in(query.strip_prefix(b"year=".as_slice())?),
+    }
+}
+
+/// Reads a month, as `2026-11`.
+fn month_in(text: &[u8]) -> Option<Months>
+    ensures { result ≡ month_in text.now }
+{
+    let month = month(text)?;
+    Some(Months {
+        first: month,
+        last: month,
+    })
+}
+
+/// Reads a year: four digits, from 1970 to 2099.
+fn year_in(text: &[u8]) -> Option<Months>
+    ensures { result ≡ year_in text.now }
+{
+    if text.len() != 4 {
+        return None;
+    }
+    year_of(number(text)?)
+}
+
+/// Gives the months of a year from 1970 to 2099.
+fn year_of(year: u32) -> Option<Months>
+    ensures { result ≡ year_of year }
+{
+    if year < 1970 || year > 2099 {
+        return None;
+    }
+    Some(Months {
+        first: year * 12,
+        last: year * 12 + 11,
     })
 }
 

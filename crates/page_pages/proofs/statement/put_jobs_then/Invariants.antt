@@ -4,4 +4,4 @@ use Rattle.page_pages.proofs.statement.put_jobs_then.Given as goal
 
 -- the jobs so far
 abbrev pub invariant-loop-job : goal.invariant-loop-job
-invariant-loop-job l = l.out.items ≡ l.fn.out.items ++ flat_map (job_if_then l.fn.month) (take l.job-index l.jobs)
+invariant-loop-job l = l.out.items ≡ l.fn.out.items ++ flat_map (job_if_then l.fn.first l.fn.last) (take l.job-index l.jobs)

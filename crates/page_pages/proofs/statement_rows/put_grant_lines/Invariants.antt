@@ -1,0 +1,7 @@
+use Rattle.std.proofs.Common.{◌≡◌, ◌++◌, take, flat_map}
+use Rattle.page_pages.specs.StatementRows.{grant_line_if_then}
+use Rattle.page_pages.proofs.statement_rows.put_grant_lines.Given as goal
+
+-- the grants so far
+abbrev pub invariant-loop-grant : goal.invariant-loop-grant
+invariant-loop-grant l = l.out.items ≡ l.fn.out.items ++ flat_map (grant_line_if_then l.fn.first l.fn.last) (take l.grant-index l.grants)
