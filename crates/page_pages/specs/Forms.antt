@@ -1,9 +1,10 @@
--- Rule: The form to print a file. Its script (`print.js`) sends the file as it is.
+-- Rule: The form to print a file. The script (`page.js`) sends the file as it is, once no field is wrong.
 use Rattle.std.specs.Prelude.{ℕ, Bool, List, [], ◌∷◌, ◌++◌, codes, if◌then◌else◌}
 use Rattle.page_markup.specs.Parts.{Part, html, Mark, Text}
-use Rattle.page_pages.specs.declared.texts.TheConstants.{COPIES, FILE, FILE_HELP, HAND_IN, PAGES_HELP, PAGES_OF_COPY, PASSWORD, PASSWORD_DUTY, PASSWORD_HELP, PRINT, SCRIPT_NEEDED, SENT_BROKEN, SENT_EMPTY, SENT_LARGE, SENT_REFUSED, SENT_SENDING}
+use Rattle.page_pages.specs.declared.markup.TheConstants.{KINDS_OF_FILE}
+use Rattle.page_pages.specs.declared.texts.TheConstants.{CANCELS_MANY, CANCEL_CHOSEN, CHOOSE, CHOOSE_ALL, CHOSEN, COPIES, DONE_OF_MANY, FILE, FILE_HELP, HAND_IN, PAGES_HELP, PAGES_OF_COPY, PAGES_RANGE, PASSWORD, PASSWORD_DUTY, PASSWORD_HELP, PRINT, RELEASE_CHOSEN, SCRIPT_NEEDED, SENT_BROKEN, SENT_EMPTY, SENT_LARGE, SENT_REFUSED, SENT_SENDING, WHY_DOCUMENT_FORMAT, WHY_JOB_NAME_TOO_LONG, WHY_PASSWORD_TOO_LONG, WHY_TEMPLATE}
 
--- the head of the form to print, with what its script says
+-- the head of the form to print, with what is said of sending it
 unfoldable pub form_start : (account : List ℕ) → List Part
 form_start account =
     Mark (codes "<section class=\"card screen\" aria-labelledby=\"hand-in\">\n<header><h2 ")
@@ -12,16 +13,53 @@ form_start account =
     ∷ Mark (codes "</h2></header>\n<form class=\"fields\" id=\"print\" method=\"post\" ")
     ∷ Mark (codes "action=\"/")
     ∷ Text account
-    ∷ Mark (codes "/print\"\ndata-empty=\"")
-    ∷ Mark SENT_EMPTY.now
-    ∷ Mark (codes "\" data-large=\"")
-    ∷ Mark SENT_LARGE.now
+    ∷ Mark (codes "/print")
     ∷ Mark (codes "\"\ndata-sending=\"")
     ∷ Mark SENT_SENDING.now
-    ∷ Mark (codes "\" data-refused=\"")
+    ∷ Mark (codes "\"\ndata-refused=\"")
     ∷ Mark SENT_REFUSED.now
-    ∷ Mark (codes "\" data-broken=\"")
+    ∷ Mark (codes "\"\ndata-broken=\"")
     ∷ Mark SENT_BROKEN.now
+    ∷ []
+
+-- what is said of fields that are wrong
+unfoldable pub form_checks : List Part
+form_checks =
+    Mark (codes "\"\ndata-empty=\"")
+    ∷ Mark SENT_EMPTY.now
+    ∷ Mark (codes "\"\ndata-large=\"")
+    ∷ Mark SENT_LARGE.now
+    ∷ Mark (codes "\"\ndata-name=\"")
+    ∷ Mark WHY_JOB_NAME_TOO_LONG.now
+    ∷ Mark (codes "\"\ndata-kind=\"")
+    ∷ Mark WHY_DOCUMENT_FORMAT.now
+    ∷ Mark (codes "\"\ndata-copies=\"")
+    ∷ Mark WHY_TEMPLATE.now
+    ∷ Mark (codes "\"\ndata-pages=\"")
+    ∷ Mark PAGES_RANGE.now
+    ∷ Mark (codes "\"\ndata-password=\"")
+    ∷ Mark WHY_PASSWORD_TOO_LONG.now
+    ∷ Mark (codes "\"\ndata-duty=\"")
+    ∷ Mark PASSWORD_DUTY.now
+    ∷ []
+
+-- what is said where several jobs are chosen
+unfoldable pub form_choices : List Part
+form_choices =
+    Mark (codes "\"\ndata-choose=\"")
+    ∷ Mark CHOOSE.now
+    ∷ Mark (codes "\"\ndata-all=\"")
+    ∷ Mark CHOOSE_ALL.now
+    ∷ Mark (codes "\"\ndata-chosen=\"")
+    ∷ Mark CHOSEN.now
+    ∷ Mark (codes "\"\ndata-release=\"")
+    ∷ Mark RELEASE_CHOSEN.now
+    ∷ Mark (codes "\"\ndata-cancel=\"")
+    ∷ Mark CANCEL_CHOSEN.now
+    ∷ Mark (codes "\"\ndata-sure=\"")
+    ∷ Mark CANCELS_MANY.now
+    ∷ Mark (codes "\"\ndata-done=\"")
+    ∷ Mark DONE_OF_MANY.now
     ∷ Mark (codes "\">\n")
     ∷ []
 
@@ -31,7 +69,9 @@ form_file =
     Mark (codes "<div class=\"wide\"><label for=\"file\">")
     ∷ Mark FILE.now
     ∷ Mark (codes "</label><input id=\"file\" name=\"file\" type=\"file\" required")
-    ∷ Mark (codes " aria-describedby=\"file-help\"><small id=\"file-help\">")
+    ∷ Mark (codes " accept=\"")
+    ∷ Mark KINDS_OF_FILE.now
+    ∷ Mark (codes "\" aria-describedby=\"file-help\"><small id=\"file-help\">")
     ∷ Mark FILE_HELP.now
     ∷ Mark (codes "</small></div>\n")
     ∷ []
@@ -42,11 +82,11 @@ form_counts =
     Mark (codes "<div><label for=\"copies\">")
     ∷ Mark COPIES.now
     ∷ Mark (codes "</label><input id=\"copies\" name=\"copies\"")
-    ∷ Mark (codes " type=\"number\" min=\"1\" max=\"999\" value=\"1\" required></div>\n")
+    ∷ Mark (codes " type=\"text\" inputmode=\"numeric\" maxlength=\"3\" value=\"1\" required></div>\n")
     ∷ Mark (codes "<div><label for=\"pages\">")
     ∷ Mark PAGES_OF_COPY.now
     ∷ Mark (codes "</label><input id=\"pages\" name=\"pages\"")
-    ∷ Mark (codes " type=\"number\" min=\"1\" max=\"99999999\" ")
+    ∷ Mark (codes " type=\"text\" inputmode=\"numeric\" maxlength=\"8\" ")
     ∷ Mark (codes "aria-describedby=\"pages-help\"><small id=\"pages-help\">")
     ∷ Mark PAGES_HELP.now
     ∷ Mark (codes "</small></div>\n")
@@ -86,7 +126,9 @@ form_end =
 unfoldable pub print_form : (account : List ℕ) (needs_password : Bool) → List ℕ
 print_form account needs_password =
     html (form_start account)
+    ++ (html form_checks
+    ++ (html form_choices
     ++ (html form_file
     ++ (html form_counts
     ++ (html (form_password (duty_mark needs_password) (password_help needs_password))
-    ++ html form_end)))
+    ++ html form_end)))))

@@ -1,8 +1,8 @@
 -- Rule: What stands around the content of a page, and of a card of it.
 use Rattle.std.specs.Prelude.{ℕ, List, [], ◌∷◌, codes}
 use Rattle.page_markup.specs.Parts.{Part, Mark, Text}
-use Rattle.page_pages.specs.declared.markup.TheConstants.{BODY, DOCUMENT, SIGNS}
-use Rattle.page_pages.specs.declared.texts.TheConstants.{PRODUCT, SKIP, TIMES, UNITS}
+use Rattle.page_pages.specs.declared.markup.TheConstants.{BODY, DOCUMENT, RELOAD, SIGNS}
+use Rattle.page_pages.specs.declared.texts.TheConstants.{PRODUCT, SKIP, STALE, TIMES, UNITS}
 
 -- the start of a page, with its title
 unfoldable pub document : (title : List ℕ) → List Part
@@ -15,12 +15,23 @@ document title =
     ∷ Mark (codes "</title>\n")
     ∷ []
 
--- what has a browser load the page of an account anew
+-- what has a browser without scripts load the page of an account anew, with what the script says
+-- where it could not
 unfoldable pub reload : (account : List ℕ) → List Part
 reload account =
-    Mark (codes "<meta http-equiv=\"refresh\" content=\"30; url=/")
+    Mark RELOAD.now
+    ∷ Mark STALE.now
+    ∷ Mark (codes "\"><meta http-equiv=\"refresh\" content=\"30; url=/")
     ∷ Text account
-    ∷ Mark (codes "\">\n")
+    ∷ Mark (codes "\"></noscript>\n")
+    ∷ []
+
+-- the same of the print room's page
+unfoldable pub reload_soon : List Part
+reload_soon =
+    Mark RELOAD.now
+    ∷ Mark STALE.now
+    ∷ Mark (codes "\"><meta http-equiv=\"refresh\" content=\"2\"></noscript>\n")
     ∷ []
 
 -- what stands above the content of a page

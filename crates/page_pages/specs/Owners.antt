@@ -10,7 +10,7 @@ use Rattle.page_pages.specs.Offers.{cheapest, dearest}
 use Rattle.page_pages.specs.Outcomes.{outcome_if_any}
 use Rattle.page_markup.specs.Parts.{Part, html, Mark, Text, Month, MonthNumber}
 use Rattle.page_pages.specs.Waiting.{waiting_card}
-use Rattle.page_pages.specs.declared.markup.TheConstants.{END_OF_PAGE, PAGE_SCRIPT}
+use Rattle.page_pages.specs.declared.markup.TheConstants.{END_OF_PAGE, SCRIPT}
 use Rattle.page_pages.specs.declared.offer.Terms.{Terms}
 use Rattle.page_pages.specs.declared.owner.Owner.{Owner}
 use Rattle.page_pages.specs.declared.texts.TheConstants.{ACCOUNT, PRINT_ROOM, RELOADS, START_RELOADING, STATEMENT_FOR, STAYS, STOP_RELOADING}
@@ -75,7 +75,7 @@ owner_document owner =
     html (document owner.account) ++ reload_if (does_reload owner) owner.account
 
 unfoldable pub owner_start : Owner → List ℕ
-owner_start owner = owner_document owner ++ (PAGE_SCRIPT.now ++ html (top PRINT_ROOM.now))
+owner_start owner = owner_document owner ++ (SCRIPT.now ++ html (top PRINT_ROOM.now))
 
 unfoldable pub content : Owner → List ℕ
 content owner =

@@ -4,10 +4,10 @@ use Rattle.page_pages.specs.Accounts.{accounts_card}
 use Rattle.page_pages.specs.Begun.{begun_card}
 use Rattle.page_pages.specs.Charts.{chart}
 use Rattle.page_pages.specs.Devices.{all_devices}
-use Rattle.page_pages.specs.Frames.{document, foot, remark, top}
+use Rattle.page_pages.specs.Frames.{document, foot, reload_soon, remark, top}
 use Rattle.page_pages.specs.Longest.{longest_card}
 use Rattle.page_markup.specs.Parts.{Part, html, Mark, Text, Number, Moment}
-use Rattle.page_pages.specs.declared.markup.TheConstants.{END_OF_PAGE, END_OF_PAIR, PAIR, RELOAD_SOON}
+use Rattle.page_pages.specs.declared.markup.TheConstants.{END_OF_PAGE, END_OF_PAIR, PAIR, SCRIPT}
 use Rattle.page_pages.specs.declared.room.Room.{Room}
 use Rattle.page_pages.specs.declared.texts.TheConstants.{ACCOUNTS_OPEN, AS_OF, FIND, FIND_LABEL, HAS_MORE, IS_GATHERED, JOBS_WAITING, NOT_SETTLED, NOT_YET, OPERATORS, PRINT_ROOM, SKIPS, UNITS_BEYOND, UNITS_THIS_MONTH}
 
@@ -83,7 +83,7 @@ front_text (Some name) = name
 
 abbrev pub reload_if : (reloads : Bool) → List ℕ
 reload_if false = []
-reload_if true = RELOAD_SOON.now
+reload_if true = html reload_soon
 
 -- a sentence, where it holds
 abbrev pub remark_if : (holds : Bool) (said : List ℕ) → List ℕ
@@ -91,10 +91,12 @@ remark_if false said = []
 remark_if true said = html (remark said)
 
 -- the page loads itself again while all of it is gathered anew, and where nothing was gathered yet
+unfoldable pub room_document : Room → List ℕ
+room_document it =
+    html (document OPERATORS.now) ++ reload_if (it.gathers || is_none it.as_of)
+
 unfoldable pub room_start : Room → List ℕ
-room_start it =
-    html (document OPERATORS.now)
-    ++ (reload_if (it.gathers || is_none it.as_of) ++ html (top OPERATORS.now))
+room_start it = room_document it ++ (SCRIPT.now ++ html (top OPERATORS.now))
 
 unfoldable pub room_head : Room → List ℕ
 room_head it =

@@ -1,24 +1,41 @@
 //! What stands around the content of a page (title, banner, foot), and the start of a card.
 
 ghost use Rattle.std.specs.Prelude.{◌≡◌, ◌++◌, OnOk};
-ghost use Rattle.page_pages.specs.Frames.{card, document, foot, reload, remark, top};
+ghost use Rattle.page_pages.specs.Frames.{card, document, foot, reload, reload_soon, remark, top};
 ghost use Rattle.page_markup.specs.Parts.{html};
 
-use crate::markup::{BODY, DOCUMENT, SIGNS};
-use crate::texts::{PRODUCT, SKIP, TIMES, UNITS};
+use crate::markup::{BODY, DOCUMENT, RELOAD, SIGNS};
+use crate::texts::{PRODUCT, SKIP, STALE, TIMES, UNITS};
 use page_markup::{Piece, put_all};
 use std::alloc::AllocError;
 
-/// Appends the element that has a browser load an account's page anew after 30 seconds.
+/// Appends the element that has a browser load an account's page anew after 30 seconds. Where
+/// scripts run, the script does that, and shows the text where it could not.
 pub(crate) fn put_reload(out: &mut Vec<u8>, account: &[u8]) -> Result<(), AllocError>
     ensures { OnOk result (out.new.items ≡ out.old.items ++ html (reload account.now)) }
 {
     put_all(
         out,
         &[
-            Piece::Mark("<meta http-equiv=\"refresh\" content=\"30; url=/"),
+            Piece::Mark(RELOAD),
+            Piece::Mark(STALE),
+            Piece::Mark("\"><meta http-equiv=\"refresh\" content=\"30; url=/"),
             Piece::Text(account),
-            Piece::Mark("\">\n"),
+            Piece::Mark("\"></noscript>\n"),
+        ],
+    )
+}
+
+/// Appends the element that has a browser load the print room's page anew after 2 seconds.
+pub(crate) fn put_reload_soon(out: &mut Vec<u8>) -> Result<(), AllocError>
+    ensures { OnOk result (out.new.items ≡ out.old.items ++ html reload_soon) }
+{
+    put_all(
+        out,
+        &[
+            Piece::Mark(RELOAD),
+            Piece::Mark(STALE),
+            Piece::Mark("\"><meta http-equiv=\"refresh\" content=\"2\"></noscript>\n"),
         ],
     )
 }

@@ -11,11 +11,11 @@ pub(crate) const DOCUMENT: &str = "<!DOCTYPE html>
 <link rel=\"stylesheet\" href=\"/style.css\">
 ";
 
-/// Loads the script of the form to print, on the owner's page.
-pub(crate) const PAGE_SCRIPT: &str = "<script src=\"/print.js\" defer></script>\n";
+/// Loads the script of the owner's and the print room's page.
+pub(crate) const SCRIPT: &str = "<script src=\"/page.js\" defer></script>\n";
 
-/// Has a browser load the print room's page anew after 2 seconds.
-pub(crate) const RELOAD_SOON: &str = "<meta http-equiv=\"refresh\" content=\"2\">\n";
+/// Begins the element that has a browser without scripts load a page anew.
+pub(crate) const RELOAD: &str = "<noscript class=\"again\" data-stale=\"";
 
 pub(crate) const BODY: &str = "</head>\n<body>\n";
 
@@ -44,6 +44,10 @@ pub(crate) const END_OF_ACTS: &str = "</form></td></tr>\n";
 
 /// Ends how a job stands.
 pub(crate) const END_OF_STATE: &str = "</small></td>\n";
+
+/// The kinds of files that the form to print takes, by the ends of their names and their types.
+pub(crate) const KINDS_OF_FILE: &str = ".pdf,.ps,.jpg,.jpeg,.pwg,.urf,.txt,application/pdf,\
+    application/postscript,image/jpeg,image/pwg-raster,image/urf,text/plain";
 
 pub(crate) const END_OF_TABLE: &str = "</tbody>\n</table>\n";
 

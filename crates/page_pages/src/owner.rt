@@ -12,7 +12,7 @@ use crate::devices::put_all_devices;
 use crate::ended::put_ended_card;
 use crate::form::put_print_form;
 use crate::frame::{put_document, put_foot, put_reload, put_top};
-use crate::markup::{END_OF_PAGE, PAGE_SCRIPT};
+use crate::markup::{END_OF_PAGE, SCRIPT};
 use crate::offer::{Terms, cheapest, dearest};
 use crate::outcome::{Outcome, put_outcome_if_any};
 use crate::texts::{
@@ -70,7 +70,7 @@ fn put_owner_start(out: &mut Vec<u8>, owner: &Owner) -> Result<(), AllocError>
     ensures { OnOk result (out.new.items ≡ out.old.items ++ owner_start owner.now) }
 {
     put_owner_document(out, owner)?;
-    out.extend_from_slice(PAGE_SCRIPT.as_bytes())?;
+    out.extend_from_slice(SCRIPT.as_bytes())?;
     put_top(out, PRINT_ROOM)
 }
 

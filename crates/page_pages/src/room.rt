@@ -5,18 +5,18 @@ ghost use Rattle.page_pages.specs.Accounts.{accounts_card};
 ghost use Rattle.page_pages.specs.Begun.{begun_card};
 ghost use Rattle.page_pages.specs.Charts.{chart};
 ghost use Rattle.page_pages.specs.Devices.{all_devices};
-ghost use Rattle.page_pages.specs.Frames.{document, foot, remark, top};
+ghost use Rattle.page_pages.specs.Frames.{document, foot, reload_soon, remark, top};
 ghost use Rattle.page_pages.specs.Longest.{longest_card};
 ghost use Rattle.page_markup.specs.Parts.{html};
-ghost use Rattle.page_pages.specs.Rooms.{as_of, as_of_text, find_form, front_text, reload_if, remark_if, room_head, room_lists, room_page, room_start, room_sums, room_title, tiles, title_start};
+ghost use Rattle.page_pages.specs.Rooms.{as_of, as_of_text, find_form, front_text, reload_if, remark_if, room_document, room_head, room_lists, room_page, room_start, room_sums, room_title, tiles, title_start};
 
 use crate::accounts::{AccountLine, put_accounts_card};
 use crate::begun::{BegunLine, put_begun_card};
 use crate::chart::{DayLine, put_chart};
 use crate::devices::put_all_devices;
-use crate::frame::{put_document, put_foot, put_remark, put_top};
+use crate::frame::{put_document, put_foot, put_reload_soon, put_remark, put_top};
 use crate::longest::{LongestLine, put_longest_card};
-use crate::markup::{END_OF_PAGE, END_OF_PAIR, PAIR, RELOAD_SOON};
+use crate::markup::{END_OF_PAGE, END_OF_PAIR, PAIR, SCRIPT};
 use crate::texts::{
     ACCOUNTS_OPEN, AS_OF, FIND, FIND_LABEL, HAS_MORE, IS_GATHERED, JOBS_WAITING, NOT_SETTLED,
     NOT_YET, OPERATORS, PRINT_ROOM, SKIPS, UNITS_BEYOND, UNITS_THIS_MONTH,
@@ -77,15 +77,24 @@ pub fn put_room_page(out: &mut Vec<u8>, room: &Room<'_>) -> Result<(), AllocErro
     out.extend_from_slice(END_OF_PAGE.as_bytes())
 }
 
-/// Appends the start of the page, up to its banner. It loads itself anew in 2 seconds while
-/// accounts are being gathered, or where nothing was gathered yet.
+/// Appends the start of the page, up to its banner.
 #[tactic(auto, using(std::proofs::Common::append_assoc), unfolding(crate::specs::Rooms::room_start))]
 fn put_room_start(out: &mut Vec<u8>, room: &Room<'_>) -> Result<(), AllocError>
     ensures { OnOk result (out.new.items ≡ out.old.items ++ room_start room.now) }
 {
-    put_document(out, OPERATORS.as_bytes())?;
-    put_reload_if(out, room.gathers || room.as_of.is_none())?;
+    put_room_document(out, room)?;
+    out.extend_from_slice(SCRIPT.as_bytes())?;
     put_top(out, OPERATORS)
+}
+
+/// Appends the title. The page loads itself anew in 2 seconds while accounts are being gathered, or
+/// where nothing was gathered yet.
+#[tactic(auto, using(std::proofs::Common::append_assoc), unfolding(crate::specs::Rooms::room_document))]
+fn put_room_document(out: &mut Vec<u8>, room: &Room<'_>) -> Result<(), AllocError>
+    ensures { OnOk result (out.new.items ≡ out.old.items ++ room_document room.now) }
+{
+    put_document(out, OPERATORS.as_bytes())?;
+    put_reload_if(out, room.gathers || room.as_of.is_none())
 }
 
 /// Appends the element that has a browser load the page anew, if it is to.
@@ -95,7 +104,7 @@ fn put_reload_if(out: &mut Vec<u8>, reloads: bool) -> Result<(), AllocError>
     if !reloads {
         return Ok(());
     }
-    out.extend_from_slice(RELOAD_SOON.as_bytes())
+    put_reload_soon(out)
 }
 
 /// Appends the heading, and the remarks that hold: accounts are being gathered, some were left out,

@@ -1,5 +1,4 @@
-//! The style sheet and the script that pages fetch, and the policy of what a browser may load for
-//! them.
+//! The style sheet that pages fetch, and the policy of what a browser may load for them.
 
 /// The style sheet of all pages, `/style.css`.
 pub const STYLE_SHEET: &str =
@@ -54,6 +53,9 @@ gap:.25rem 1.5rem;margin-bottom:1rem}
 border-radius:10px}
 .note .sign{width:1.5rem;height:1.5rem}
 .note p{max-width:46rem}
+/* it is seen from the row that it is of */
+@media (min-height:30em){.note{position:sticky;top:.5rem;z-index:1}}
+tr:has(>:target)>*{background:var(--rest)}
 .good{border-color:var(--juniper)}
 .good .sign{color:var(--juniper)}
 /* what is left */
@@ -125,6 +127,10 @@ background:var(--card);border:1px solid var(--edge);border-radius:7px}
 input[type=file]{padding:.3125rem}
 ::file-selector-button{min-height:2rem;margin-right:.75rem;padding:0 .75rem;font:inherit;
 font-weight:600;color:var(--ink);background:var(--rest);border:1px solid var(--edge);border-radius:5px}
+input[type=checkbox]{width:1.25rem;min-height:1.25rem;height:1.25rem;margin:0 .5rem 0 0;vertical-align:middle;accent-color:var(--juniper)}
+[aria-invalid=true]{border:2px solid var(--ink)}
+.wrong{font-weight:600;color:var(--ink)}
+.chosen{display:flex;flex-wrap:wrap;align-items:center;gap:.5rem 1rem}
 .fields{display:grid;grid-template-columns:repeat(3,minmax(0,1fr));gap:1.5rem}
 .fields small{display:block;margin-top:.25rem}
 .wide{grid-column:1/-1}
@@ -195,7 +201,7 @@ main>*,.pair>*{margin-bottom:1.5rem}
 .sheet,.foot.sheet{max-width:none}
 td,tbody th{padding-block:.5rem}
 .foot{padding-bottom:0}
-form,.acts,.skip,.note,.screen,.foot a,.title>a,details:not([open]){display:none!important}
+form,.acts,.skip,.note,.chosen,input,.screen,.foot a,.title>a,details:not([open]){display:none!important}
 tr{break-inside:avoid}
 .jobs bdi{-webkit-line-clamp:none}
 h2{break-after:avoid}
@@ -204,39 +210,7 @@ a{color:inherit;text-decoration:none}
 }
 ";
 
-/// The script of the form to print, `/print.js`.
-pub const PRINT_SCRIPT: &str =
-    "// Hands in the file of the form as it is: the one thing here that needs a script.
-'use strict';
-const form = document.getElementById('print');
-const hand = form.querySelector('button');
-const word = document.getElementById('sent');
-// Without the name and password that the page's own address may have.
-const place = location.origin + form.getAttribute('action');
-const tell = (text) => { word.textContent = form.dataset[text]; };
-hand.disabled = false;
-form.addEventListener('input', () => window.stop());
-form.addEventListener('submit', async (event) => {
-  event.preventDefault();
-  const file = form.elements.file.files[0];
-  if (!file || file.size === 0) { tell('empty'); return; }
-  if (file.size > 16777216) { tell('large'); return; }
-  const query = new URLSearchParams({ name: file.name });
-  for (const field of ['copies', 'pages']) query.set(field, form.elements[field].value);
-  const secret = encodeURIComponent(form.elements.password.value);
-  const headers = { 'Content-Type': 'application/octet-stream', 'Job-Password': secret };
-  hand.disabled = true;
-  tell('sending');
-  try {
-    const reply = await fetch(place + '?' + query, { method: 'POST', body: file, headers });
-    if (reply.redirected) { window.location.assign(reply.url); return; }
-    tell('refused');
-  } catch (fault) { tell('broken'); }
-  hand.disabled = false;
-});
-";
-
 /// What a browser may load and send for a page: its Content-Security-Policy. `connect-src` is for
-/// the script of the form to print.
+/// the script.
 pub const PAGE_POLICY: &str = "default-src 'none'; style-src 'self'; script-src 'self'; \
     img-src 'self' data:; connect-src 'self'; form-action 'self'; frame-ancestors 'none'";

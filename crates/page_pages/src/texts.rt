@@ -163,9 +163,11 @@ pub(crate) const HAND_IN: &str = "Hand in";
 pub(crate) const SCRIPT_NEEDED: &str =
     "To hand in a file here, the browser has to run scripts. All else works without.";
 
-pub(crate) const SENT_EMPTY: &str = "This file is empty.";
+pub(crate) const SENT_EMPTY: &str = "Choose a file that is not empty.";
 
 pub(crate) const SENT_LARGE: &str = "This file has more than 16 MiB.";
+
+pub(crate) const PAGES_RANGE: &str = "Pages go from 1 to 99999999. The field may be empty.";
 
 pub(crate) const SENT_SENDING: &str = "The file is on its way.";
 
@@ -173,7 +175,25 @@ pub(crate) const SENT_REFUSED: &str = "The file was not taken.";
 
 pub(crate) const SENT_BROKEN: &str = "The file did not get through. Try again.";
 
+// ---- several jobs at once
+pub(crate) const CHOOSE: &str = "Choose job";
+
+pub(crate) const CHOOSE_ALL: &str = "Choose all";
+
+pub(crate) const CHOSEN: &str = "Chosen:";
+
+pub(crate) const RELEASE_CHOSEN: &str = "Release the chosen";
+
+pub(crate) const CANCEL_CHOSEN: &str = "Cancel the chosen";
+
+pub(crate) const CANCELS_MANY: &str = "Press again to cancel:";
+
+pub(crate) const DONE_OF_MANY: &str = "Done:";
+
 // ---- reloading
+pub(crate) const STALE: &str =
+    "This page could not be loaded anew. What it shows may have changed.";
+
 pub(crate) const RELOADS: &str = "While a job waits, this page loads itself anew every 30 seconds.";
 
 pub(crate) const STOP_RELOADING: &str = "Leave it as it is";

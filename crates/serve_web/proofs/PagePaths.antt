@@ -107,15 +107,15 @@ paths_are_spelled path place said = room (first_or (bytes_eq path (codes "/")) R
     account : of_account path ≡ Some place → LeadsTo path place
     account told = option_and_then_some place_behind (behind (codes "/") path) place told (λ rest found is. behind_leads path rest place (behind_is (codes "/") path rest found) is)
 
-    script : ((bytes_eq path (codes "/print.js") ≡ true) × (Script ≡ place)) ⊎ (of_account path ≡ Some place) → LeadsTo path place
-    script (inl same) = subst (LeadsTo path) same.1 ((bytes_eq-Decides path (codes "/print.js")).0 same.0)
+    script : ((bytes_eq path (codes "/page.js") ≡ true) × (Script ≡ place)) ⊎ (of_account path ≡ Some place) → LeadsTo path place
+    script (inl same) = subst (LeadsTo path) same.1 ((bytes_eq-Decides path (codes "/page.js")).0 same.0)
     script (inr told) = account told
 
-    style : ((bytes_eq path (codes "/style.css") ≡ true) × (Style ≡ place)) ⊎ (cond (bytes_eq path (codes "/print.js")) (Some Script) (of_account path) ≡ Some place) → LeadsTo path place
+    style : ((bytes_eq path (codes "/style.css") ≡ true) × (Style ≡ place)) ⊎ (cond (bytes_eq path (codes "/page.js")) (Some Script) (of_account path) ≡ Some place) → LeadsTo path place
     style (inl same) = subst (LeadsTo path) same.1 ((bytes_eq-Decides path (codes "/style.css")).0 same.0)
-    style (inr told) = script (first_or (bytes_eq path (codes "/print.js")) Script place _ told)
+    style (inr told) = script (first_or (bytes_eq path (codes "/page.js")) Script place _ told)
 
-    room : ((bytes_eq path (codes "/") ≡ true) × (Room ≡ place)) ⊎ (cond (bytes_eq path (codes "/style.css")) (Some Style) (cond (bytes_eq path (codes "/print.js")) (Some Script) (of_account path)) ≡ Some place) → LeadsTo path place
+    room : ((bytes_eq path (codes "/") ≡ true) × (Room ≡ place)) ⊎ (cond (bytes_eq path (codes "/style.css")) (Some Style) (cond (bytes_eq path (codes "/page.js")) (Some Script) (of_account path)) ≡ Some place) → LeadsTo path place
     room (inl same) = subst (LeadsTo path) same.1 ((bytes_eq-Decides path (codes "/")).0 same.0)
     room (inr told) = style (first_or (bytes_eq path (codes "/style.css")) Style place _ told)
 
@@ -143,7 +143,7 @@ of_account_again : (account part : List ℕ) → IsName account → Begins 47 pa
 of_account_again account part name begins =
     cond-false _ _ _ (is_other account part (codes "") name begins refl)
     ∙ cond-false _ _ _ (is_other account part (codes "style.css") name begins refl)
-    ∙ cond-false _ _ _ (is_other account part (codes "print.js") name begins refl)
+    ∙ cond-false _ _ _ (is_other account part (codes "page.js") name begins refl)
     ∙ ap (option_and_then place_behind) (behind_again (codes "/") (account ++ part))
     ∙ behind_again_in account part name begins
 

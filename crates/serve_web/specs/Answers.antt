@@ -12,7 +12,8 @@ use Rattle.client_owner.specs.Requests.{act_message}
 use Rattle.client_owner.specs.declared.acts.JobAct.{JobAct}
 use Rattle.page_pages.specs.declared.outcome.Act.{Act as PageAct}
 use Rattle.page_pages.specs.declared.outcome.Act.TheVariants as page_act_is
-use Rattle.page_pages.specs.declared.style.TheConstants.{PRINT_SCRIPT, STYLE_SHEET}
+use Rattle.page_pages.specs.declared.script.TheConstants.{PAGE_SCRIPT}
+use Rattle.page_pages.specs.declared.style.TheConstants.{STYLE_SHEET}
 use Rattle.account_questions.specs.declared.question.Question.{Question}
 use Rattle.serve_space.specs.Spares.{takes_of}
 use Rattle.store_rounds.specs.declared.fault.StoreFault.{StoreFault}
@@ -47,7 +48,7 @@ abbrev pub Stays : Asked → (closes : Bool) → Response → Type 0
 Stays Style closes response = IsResponse 200
     (sheet_fields (codes "text/css; charset=utf-8") closes) STYLE_SHEET.now response
 Stays Script closes response = IsResponse 200
-    (sheet_fields (codes "text/javascript; charset=utf-8") closes) PRINT_SCRIPT.now response
+    (sheet_fields (codes "text/javascript; charset=utf-8") closes) PAGE_SCRIPT.now response
 Stays (Print account copies pages) closes response =
     IsRefusal NoPassword closes response ⊎ IsRefusal NoSpace closes response
 Stays _ closes response = ⊥

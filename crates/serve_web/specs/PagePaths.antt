@@ -29,7 +29,7 @@ pub record IsOf (account behind path : List ℕ) : Type 0 where
 abbrev pub LeadsTo : (path : List ℕ) → Place → Type 0
 LeadsTo path Room = path ≡ codes "/"
 LeadsTo path Style = path ≡ codes "/style.css"
-LeadsTo path Script = path ≡ codes "/print.js"
+LeadsTo path Script = path ≡ codes "/page.js"
 LeadsTo path (Owner account) = IsOf account (codes "") path
 LeadsTo path (Statement account) = IsOf account (codes "/statement") path
 LeadsTo path (Table account) = IsOf account (codes "/statement.csv") path

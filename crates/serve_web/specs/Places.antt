@@ -30,5 +30,5 @@ abbrev pub place_of : (path : List ℕ) → Option Place
 place_of path =
     if bytes_eq path (codes "/") then Some Room
     else if bytes_eq path (codes "/style.css") then Some Style
-    else if bytes_eq path (codes "/print.js") then Some Script
+    else if bytes_eq path (codes "/page.js") then Some Script
     else option_and_then place_behind (behind (codes "/") path)

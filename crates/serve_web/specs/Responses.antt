@@ -1,13 +1,15 @@
 -- Rule: The responses to browsers (all this project's own, where no standard is named).
-use Rattle.std.specs.Prelude.{ℕ, Bool, true, false, List, [], ◌∷◌, ◌++◌, codes, bytes_eq, Result, Ok, Err}
+use Rattle.std.specs.Prelude.{ℕ, Bool, true, false, List, [], ◌∷◌, ◌++◌, codes, decimal, bytes_eq, Result, Ok, Err}
 use Rattle.http_server.specs.Response.{IsResponse}
 use Rattle.http_server.specs.declared.response.Response.{Response}
 use Rattle.account_machine.specs.declared.event.Reply.{Reply}
 use Rattle.account_machine.specs.declared.event.Reply.TheVariants as reply_is
 use Rattle.account_machine.specs.declared.verdict.Answered.{Answered}
 use Rattle.page_pages.specs.declared.outcome.Act.{Act}
+use Rattle.page_pages.specs.declared.outcome.Act.TheVariants.{Cancel, Print}
 use Rattle.page_pages.specs.Refusals.{refusal_page}
 use Rattle.page_pages.specs.declared.outcome.Outcome.{Outcome}
+use Rattle.page_pages.specs.declared.outcome.Outcome.TheVariants as outcome_is
 use Rattle.store_rounds.specs.declared.fault.StoreFault.{StoreFault}
 use Rattle.serve_web.specs.OutcomeQueries.{outcome_text}
 use Rattle.serve_web.specs.Fields.{common_fields, more_fields, page_fields, shown_fields}
@@ -44,9 +46,19 @@ IsShown kind closes (Ok (reply_is.Line text)) = IsPage kind closes text
 IsShown kind closes (Ok other) = IsRefusal Failed closes
 IsShown kind closes (Err fault) = IsRefusal Failed closes
 
+-- where on the owner's page that is told: at the row of the job, at the list that a canceled one left,
+-- at the form to print
+abbrev pub fragment : Outcome → List ℕ
+fragment (outcome_is.Done Cancel job) = codes "#waiting"
+fragment (outcome_is.Done act job) = codes "#job-" ++ decimal job
+fragment (outcome_is.Refused Print job word) = codes "#hand-in"
+fragment (outcome_is.Refused act job word) = codes "#job-" ++ decimal job
+fragment outcome_is.Failed = codes ""
+
 -- the owner's page, with what came of an act in its query
 unfoldable pub location : (account : List ℕ) → Outcome → List ℕ
-location account outcome = codes "/" ++ (account ++ (codes "?" ++ outcome_text outcome))
+location account outcome =
+    codes "/" ++ (account ++ (codes "?" ++ (outcome_text outcome ++ fragment outcome)))
 
 -- the browser is sent to another page (RFC 9110 section 15.4.4)
 abbrev pub IsRedirect : (place : List ℕ) (closes : Bool) → Response → Type 0

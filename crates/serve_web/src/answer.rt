@@ -1,8 +1,8 @@
 //! Writes the answers to browsers: pages, refusals, the style sheet, and redirects after an act.
-ghost use Rattle.std.specs.Prelude.{◌≡◌, ◌⊎◌, IfOk, IsTrue, OnOk};
+ghost use Rattle.std.specs.Prelude.{◌≡◌, ◌⊎◌, ◌++◌, codes, decimal, IfOk, IsTrue, OnOk};
 ghost use Rattle.http_header.specs.FieldValue.{is_visible_text};
 ghost use Rattle.http_server.specs.Response.{IsBlank, IsResponse};
-ghost use Rattle.serve_web.specs.Responses.{IsDone, IsLost, IsPage, IsRedirect, IsRefusal, IsShown, is_no_account, is_not_open, location, tells_no_account};
+ghost use Rattle.serve_web.specs.Responses.{IsDone, IsLost, IsPage, IsRedirect, IsRefusal, IsShown, fragment, is_no_account, is_not_open, location, tells_no_account};
 ghost use Rattle.serve_web.specs.Fields.{sheet_fields};
 
 use crate::fields::{
@@ -16,6 +16,7 @@ use account_rules::Name;
 use bytes::Bytes;
 use http::{HeaderValue, StatusCode, header};
 use http_server::Response;
+use itoa::Buffer;
 use page_pages::{Act, Outcome, Refusal, put_refusal_page};
 use std::alloc::{AllocError, Global};
 use store_rounds::StoreFault;
@@ -205,7 +206,7 @@ fn redirect(
     put_common_fields(response, closes)
 }
 
-/// Makes the path of the owner's page, with what came of an act as its query.
+/// Makes the path of the owner's page, with what came of an act as its query, and where it tells that.
 #[tactic(auto, using(std::proofs::Common::append_assoc), unfolding(crate::specs::Responses::location))]
 fn location(alloc: Global, account: Name, outcome: &Outcome) -> Result<Vec<u8>, AllocError>
     ensures { IfOk result (λ place. place.items ≡ location account outcome.now) }
@@ -215,7 +216,35 @@ fn location(alloc: Global, account: Name, outcome: &Outcome) -> Result<Vec<u8>, 
     place.extend_from_slice(account.bytes())?;
     place.push(b'?')?;
     put_outcome(&mut place, outcome)?;
+    put_fragment(&mut place, outcome)?;
     Ok(place)
+}
+
+/// Appends where on the owner's page is told what came of the act.
+fn put_fragment(out: &mut Vec<u8>, outcome: &Outcome) -> Result<(), AllocError>
+    ensures { OnOk result (out.new.items ≡ out.old.items ++ fragment outcome.now) }
+{
+    match outcome {
+        Outcome::Done {
+            act: Act::Cancel,
+            ..
+        } => out.extend_from_slice(b"#waiting"),
+        Outcome::Refused {
+            act: Act::Print,
+            ..
+        } => out.extend_from_slice(b"#hand-in"),
+        Outcome::Done { job, .. } | Outcome::Refused { job, .. } => put_row(out, *job),
+        Outcome::Failed => Ok(()),
+    }
+}
+
+/// Appends the fragment of the row of a job.
+fn put_row(out: &mut Vec<u8>, job: u32) -> Result<(), AllocError>
+    ensures { OnOk result (out.new.items ≡ out.old.items ++ (codes "#job-" ++ decimal job)) }
+{
+    let mut digits = Buffer::new();
+    out.extend_from_slice(b"#job-")?;
+    out.extend_from_slice(digits.format(job).as_bytes())
 }
 
 /// Makes the value of a field. Each byte of a `location` may stand in one.

@@ -23,7 +23,7 @@ pub(crate) struct Months {
 pub(crate) enum Asked {
     /// The style sheet.
     Style,
-    /// The script of the form to print.
+    /// The script of the pages.
     Script,
     /// The print room's page. It lists accounts whose names begin with `front` and come behind the
     /// name `behind`, if these are given.

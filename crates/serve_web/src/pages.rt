@@ -21,7 +21,7 @@ use bytes::Bytes;
 use client_owner::JobAct;
 use http::Request;
 use http_server::{Response, Service};
-use page_pages::{Act, PRINT_SCRIPT, Refusal, STYLE_SHEET};
+use page_pages::{Act, PAGE_SCRIPT, Refusal, STYLE_SHEET};
 use serve_peers::{Entry, RoomService, Served, has_long_body};
 use sqlite::Alter;
 use std::alloc::AllocError;
@@ -114,7 +114,7 @@ fn answer_asked<S: Alter>(
         Asked::Script => put_sheet(
             response,
             "text/javascript; charset=utf-8",
-            PRINT_SCRIPT,
+            PAGE_SCRIPT,
             closes,
         ),
         Asked::Act { account, act, job } => {

@@ -13,7 +13,7 @@ pub(crate) enum Place {
     Room,
     /// The style sheet.
     Style,
-    /// The script of the form to print.
+    /// The script of the pages.
     Script,
     /// The page of an account's owner.
     Owner(Name),
@@ -37,7 +37,7 @@ pub(crate) fn place_of(path: &[u8]) -> Option<Place>
     if path == b"/style.css".as_slice() {
         return Some(Place::Style);
     }
-    if path == b"/print.js".as_slice() {
+    if path == b"/page.js".as_slice() {
         return Some(Place::Script);
     }
     place_behind(path.strip_prefix(b"/".as_slice())?)
