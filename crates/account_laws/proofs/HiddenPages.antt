@@ -1,8 +1,7 @@
 -- A page is the same where the passwords of its jobs are hidden.
-use Rattle.std.proofs.Common.{◌≡◌, ℕ, ◌+◌, ◌-◌, Bool, cond, not, ◌&&◌, ◌==◌, List, [], ◌++◌, flat_map, map, refl, ap}
+use Rattle.std.proofs.Common.{◌≡◌, ℕ, ◌+◌, ◌-◌, Bool, cond, not, ◌&&◌, ◌==◌, List, [], ◌∷◌, ◌++◌, flat_map, map, refl, ap}
 use Rattle.std.proofs.lemmas.List.Folds.{fold-map}
-use Rattle.std.specs.Fmt.{decimal, signed_decimal}
-use Rattle.std.specs.Prelude.{codes}
+use Rattle.std.specs.Fmt.{signed_decimal}
 use Rattle.account_laws.proofs.HiddenPasswords.{hidden, still_secret}
 use Rattle.account_laws.proofs.ToldLists.{length_changed, told_changed}
 use Rattle.account_rules.specs.Effects.{is_incomplete}
@@ -13,12 +12,10 @@ use Rattle.page_pages.specs.Forms.{print_form}
 use Rattle.page_pages.specs.Owners.{content, lists, owner_document, owner_end, owner_page, owner_start, reload_if, terms_of}
 use Rattle.page_pages.specs.Phases.{phase_in, phase_of, printing_phase, sign, word}
 use Rattle.page_pages.specs.Movements.{balance, charged_before, charged_since, charged_then, closing, given_back, granted_before, granted_then, is_then, opening}
-use Rattle.page_pages.specs.StatementRows.{balance_row, charge_cell, end_cell, grant_line_if_then, job_ending, job_line, job_line_if_then, name_cell, statement_rows}
-use Rattle.page_pages.specs.Statements.{heading, job_if_then, jobs_end, links, reserved_now, sheet_foot, statement_grants, statement_in, statement_jobs, statement_page, statement_paper, statement_start, sums, sums_before, sums_then, title}
-use Rattle.page_pages.specs.declared.markup.TheConstants.{END_OF_PAGE}
+use Rattle.page_pages.specs.StatementRows.{closing_row, job_ending, job_line, job_line_if_then, opening_row, statement_rows}
+use Rattle.page_pages.specs.Statements.{heading, job_if_then, jobs_end, links, reserved_now, statement_grants, statement_in, statement_jobs, statement_page, statement_paper, statement_start, sums, sums_before, sums_then, title}
 use Rattle.page_pages.specs.declared.statement.Form.{Form}
 use Rattle.page_pages.specs.declared.statement.Form.TheVariants.{Paper, Csv}
-use Rattle.page_pages.specs.declared.statement_rows.TheConstants.{CLOSING_CELL, COLUMNS, END_OF_ROW, JOB_CELL, OPENING_CELL}
 use Rattle.page_pages.specs.Waiting.{buttons, job_cells, job_form, job_row, table_of_waiting, waiting_card}
 use Rattle.page_pages.specs.Devices.{all_devices}
 use Rattle.page_pages.specs.Offers.{offer}
@@ -117,16 +114,20 @@ module _ (owner : Owner) (waiting ended : List Job) where
 then_hidden : (first last : ℕ) (job : Job) → job_if_then first last (hidden job) ≡ job_if_then first last job
 then_hidden first last job = ap (λ (row : List ℕ). cond (is_then first last job.standing.ended) row []) (ended_hidden job)
 
+behind_one : (b : ℕ) (x y after : List ℕ) → x ≡ y → b ∷ (x ++ after) ≡ b ∷ (y ++ after)
+behind_one b x y after same = ap (λ (l : List ℕ). b ∷ (l ++ after)) same
+
+-- all but the last of five
+first_four : (a a2 b b2 c c2 d d2 rest : List ℕ) → a ≡ a2 → b ≡ b2 → c ≡ c2 → d ≡ d2 → a ++ (b ++ (c ++ (d ++ rest))) ≡ a2 ++ (b2 ++ (c2 ++ (d2 ++ rest)))
+first_four a a2 b b2 c c2 d d2 rest one two three four = λ i. one i ++ (two i ++ (three i ++ (four i ++ rest)))
+
+ending_hidden : (job : Job) → job_ending (hidden job) ≡ job_ending job
+unfolding job_ending
+ending_hidden job = behind_one _ (word (phase_of (hidden job))) (word (phase_of job)) _ (ap word (phase_hidden job))
+
 line_hidden : (job : Job) → job_line (hidden job) ≡ job_line job
-unfolding job_line job_ending
-line_hidden job =
-    ap
-    (λ (phase : Phase).
-    JOB_CELL.now
-    ++ (end_cell job.standing.ended
-    ++ (codes "," ++ (decimal job.job ++ (codes "," ++ (name_cell job.name ++ (codes ","
-    ++ (word phase ++ (codes "," ++ (device_or_none job.standing.device ++ (codes "," ++ (charge_cell job.standing.charged ++ END_OF_ROW.now))))))))))))
-    (phase_hidden job)
+unfolding job_line
+line_hidden job = rw (ending_hidden job) refl
 
 line_then_hidden : (first last : ℕ) (job : Job) → job_line_if_then first last (hidden job) ≡ job_line_if_then first last job
 line_then_hidden first last job = ap (λ (row : List ℕ). cond (is_then first last job.standing.ended) row []) (line_hidden job)
@@ -169,16 +170,20 @@ module _ (statement : Statement) (ended : List Job) where
 
   paper_hidden : statement_paper (statement_of (map hidden ended)) ≡ statement_paper (statement_of ended)
   unfolding statement_paper
-  paper_hidden = λ i. statement_start_hidden i ++ (statement_sums_hidden i ++ (statement_grants_hidden i ++ (statement_jobs_hidden i ++ (html sheet_foot ++ END_OF_PAGE.now))))
+  paper_hidden = first_four _ _ _ _ _ _ _ _ _ statement_start_hidden statement_sums_hidden statement_grants_hidden statement_jobs_hidden
+
+  opening_row_hidden : opening_row (statement_of (map hidden ended)) ≡ opening_row (statement_of ended)
+  opening_row_hidden = rw opening_hidden refl
+
+  closing_row_hidden : closing_row (statement_of (map hidden ended)) ≡ closing_row (statement_of ended)
+  closing_row_hidden = rw closing_hidden refl
+
+  lines_then_hidden : flat_map (job_line_if_then statement.first statement.last) (map hidden ended) ≡ flat_map (job_line_if_then statement.first statement.last) ended
+  lines_then_hidden = told_changed hidden (job_line_if_then statement.first statement.last) (job_line_if_then statement.first statement.last) (line_then_hidden statement.first statement.last) ended
 
   rows_hidden : statement_rows (statement_of (map hidden ended)) ≡ statement_rows (statement_of ended)
   unfolding statement_rows
-  rows_hidden =
-      let lines = told_changed hidden (job_line_if_then statement.first statement.last) (job_line_if_then statement.first statement.last) (line_then_hidden statement.first statement.last) ended in
-      λ i. COLUMNS.now
-      ++ (balance_row OPENING_CELL.now statement.first (opening_hidden i)
-      ++ (flat_map (grant_line_if_then statement.first statement.last) statement.grants
-      ++ (lines i ++ balance_row CLOSING_CELL.now statement.last (closing_hidden i))))
+  rows_hidden = rw (opening_row_hidden, lines_then_hidden, closing_row_hidden) refl
 
   in_form : (form : Form) → statement_in form (statement_of (map hidden ended)) ≡ statement_in form (statement_of ended)
   in_form Paper = paper_hidden

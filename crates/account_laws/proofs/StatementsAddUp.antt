@@ -48,7 +48,7 @@ module _ {X : Type 0} where
   -- of those that pass
   first_of : (f : X → ℕ) (x : X) (xs : List X) (rest : ℕ) (b : Bool) → sum_by f xs ≡ rest → sum_by f (cond b (x ∷ xs) xs) ≡ cond b (f x) 0 + rest
   first_of f x xs rest true same = sum_by-cons f x xs ∙ ap (λ (n : ℕ). f x + n) same
-  first_of f x xs rest false same = same
+  first_of f x xs rest false same = omega (arith, same)
 
   sum_passed : (p : X → Bool) (f : X → ℕ) (xs : List X) → sum_by f (filter p xs) ≡ sum_by (λ (x : X). cond (p x) (f x) 0) xs
   sum_passed p f [] = refl
@@ -77,8 +77,8 @@ up_to at last n = grind arith
 none_of : (at month n : ℕ) → month ≤ at → cond (nat_lt at month) n 0 ≡ 0
 none_of at month n later = grind arith
 
-of_none : (b : Bool) → cond b 0 0 ≡ 0
-of_none b = elim b as (λ (b : Bool). cond b 0 0 ≡ 0) [ true ↦ refl | false ↦ refl ]
+of_none : (b : Bool) → ◌≡◌ {A = ℕ} (cond b 0 0) 0
+of_none b = elim b as (λ (b : Bool). ◌≡◌ {A = ℕ} (cond b 0 0) 0) [ true ↦ refl | false ↦ refl ]
 
 -- ---- what a statement reckons
 
@@ -93,7 +93,7 @@ module _ (told : AccountTold) where
   of_stage month (Prints device rate units since is_canceled) = refl
   of_stage month (HasEnded how count units since at) = turned (month_at (min at last_moment)) month units
 
-  jobs : List Numbered
+  abbrev jobs : List Numbered
   jobs = entries told.jobs
 
   values_are : (f : JobTold → ℕ) → sum_by f (values told.jobs) ≡ sum_by (λ (it : Numbered). f it.1) jobs

@@ -29,14 +29,12 @@ pub fn settlements_charge()
 /// Law: a statement adds up. It opens with what was granted for months before, less what jobs were
 /// charged that ended before. Its rows, each grant for its months and each job that ended in them,
 /// lead from there to what it closes with, which is the same of the months up to its last.
-#[tactic(auto, using(crate::proofs::StatementsAddUp::statements_add_up))]
 pub fn statements_add_up()
     ensures { StatementsAddUp }
 {}
 
 /// Law: what one statement closes with, the next opens with, whatever was asked in between, unless
 /// that was a grant for a month that had ended, or a settlement at a moment in one.
-#[tactic(auto, using(crate::proofs::StatementsAddUp::months_join))]
 pub fn months_join()
     ensures { MonthsJoin }
 {}
