@@ -36,6 +36,7 @@ use Rattle.account_state.proofs.KeptRooms.{restood_there}
 use Rattle.account_state.specs.Changes.{with_ended, with_standing}
 use Rattle.account_state.specs.Rooms.{RoomValue}
 use Rattle.account_state.specs.Sums.{left_in}
+use Rattle.page_pages.specs.Owners.{terms_of}
 use Rattle.page_pages.specs.declared.outcome.Outcome.{Outcome}
 use Rattle.page_pages.specs.declared.owner.Owner.{Owner}
 use Rattle.page_pages.proofs.Buttons.{buttons_release}
@@ -84,13 +85,13 @@ module _ (room : RoomValue) (devices : Devices) (now : ℕ) (account body : List
       λ done. record {
         released = record job { standing = standing };
         is_there = moved_there standing (goes_on (left_in room now) job standing held is);
-        offers = buttons_release.released account _ job standing held is;
+        offers = buttons_release.released account (terms_of page) job standing held is;
       },
       λ refused. absurd (true≢false (sym (tells_success ask.header ask.unsupported []) ∙ refused)),
     )
     by (Err refusal) is errs = (
       λ done. absurd (true≢false (sym done ∙ tells_error ask.header refusal ask.unsupported errs)),
-      λ refused. buttons_release.refused account _ job refusal held is,
+      λ refused. buttons_release.refused account (terms_of page) job refusal held is,
     )
 
     offered : OffersAsAnswered page job step
