@@ -1,10 +1,9 @@
 -- Your page offers the release of a job exactly where that would be done.
-use Rattle.std.proofs.Common.{◌≡◌, ℕ, ℤ, Bool, true, false, true≢false, cond, nat_lt, List, [], length, Option, Some, None, Result, Ok, Err, refl, sym, ap, subst, ◌∙◌}
+use Rattle.std.proofs.Common.{◌≡◌, ℕ, ℤ, Bool, true, true≢false, cond, List, [], Option, Some, None, Result, Ok, Err, refl, sym, ap, subst, ◌∙◌}
 use Rattle.std.specs.FinMap.{FinMap, get, insert}
 use Rattle.std.specs.Ordering.{nat_cmp}
 use Rattle.std.proofs.lemmas.Grind.{common_steps}
 use Rattle.std.proofs.Common.{arith}
-use Rattle.ipp_coding.specs.Limits.{header_length}
 use Rattle.ipp_coding.specs.Reading.{header_in}
 use Rattle.account_asks.specs.Asks.{PlainAsk, PlainRefusal, ask_of}
 use Rattle.account_asks.specs.declared.operation.Operation.{Operation}
@@ -13,7 +12,6 @@ use Rattle.account_laws.proofs.DoneWhere.{is_long}
 use Rattle.account_laws.proofs.Statuses.{RefusesByError, move_errs}
 use Rattle.account_laws.proofs.Tellings.{tells_error, tells_success}
 use Rattle.account_laws.specs.OfferedReleases.{OffersAsAnswered, ReleasesAreOffered, ReleasesJob}
-use Rattle.account_laws.specs.Told.{is_successful}
 use Rattle.account_machine.specs.Events.{OfAccount, Ipp}
 use Rattle.account_machine.specs.JobActs.{job_or_refusal}
 use Rattle.account_machine.specs.JobRequests.{acted, has_password}

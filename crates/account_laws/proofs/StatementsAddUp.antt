@@ -1,12 +1,12 @@
 -- A statement adds up, and what closes one month opens the next.
-use Rattle.std.proofs.Common.{◌≡◌, ℕ, ℤ, pos, ◌+◌, ◌-◌, ◌*◌, ◌+ℤ◌, ◌-ℤ◌, ◌<◌, ◌≤◌, nat_le, nat_lt, min, Bool, true, false, cond, List, [], ◌∷◌, ◌++◌, filter, map, Option, Some, None, refl, sym, ap, subst, ◌∙◌, arith, append-nil, append_assoc}
+use Rattle.std.proofs.Common.{◌≡◌, ℕ, ℤ, pos, ◌+◌, ◌*◌, ◌+ℤ◌, ◌-ℤ◌, ◌≤◌, nat_le, nat_lt, min, Bool, true, false, cond, List, [], ◌∷◌, ◌++◌, filter, map, Option, Some, None, refl, sym, ap, ◌∙◌, arith, append-nil, append_assoc}
 use Rattle.std.proofs.lemmas.Int.{ints}
 use Rattle.std.proofs.lemmas.List.Folds.{fold-map}
 use Rattle.std.proofs.lemmas.List.Sorted.{sum_by-IsPermutation}
 use Rattle.std.proofs.lemmas.List.Sums.{sum_by-cons}
 use Rattle.std.specs.Cmp.{nat_cmp_total}
 use Rattle.std.specs.FinMap.{FinMap, entries, get, values}
-use Rattle.std.specs.List.{AllByRecursion, sum_by}
+use Rattle.std.specs.List.{sum_by}
 use Rattle.std.specs.Ordering.{nat_cmp}
 use Rattle.account_laws.proofs.AsTold.{told_more}
 use Rattle.account_laws.proofs.FitDeeds.{IsFit, deeds_fit}
@@ -20,7 +20,7 @@ use Rattle.account_laws.specs.PagesTold.{statement_told, whole_job}
 use Rattle.account_laws.specs.StagesTold.{ended_told}
 use Rattle.account_laws.specs.StatementsAddUp as law
 use Rattle.account_laws.specs.StatementsAddUp.{AddsUp, AreNoneBefore, IsNoneBefore, balance_before, charges_shown, ends_before, pages_before, pages_shown}
-use Rattle.account_lives.specs.Lives.{Exchange, IsLife, Life}
+use Rattle.account_lives.specs.Lives.{IsLife, Life}
 use Rattle.account_rules.specs.Devices.{Devices}
 use Rattle.account_rules.specs.Limits.{last_moment}
 use Rattle.account_rules.specs.Months.{month_at}
@@ -31,7 +31,6 @@ use Rattle.account_state.specs.Grants.{grant_of}
 use Rattle.account_state.specs.Rooms.{RoomValue}
 use Rattle.page_pages.specs.Movements.{charged_before, charged_since, charged_then, closing, granted_before, granted_then, is_since, is_then, is_within, opening, pages_within}
 use Rattle.page_pages.specs.declared.statement.Form.{Form}
-use Rattle.page_pages.specs.declared.statement.Statement.{Statement}
 
 -- ---- sums
 

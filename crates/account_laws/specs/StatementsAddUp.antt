@@ -1,5 +1,5 @@
 -- A statement adds up, and what closes one month opens the next (all this project's own).
-use Rattle.std.specs.Prelude.{◌≡◌, ℕ, ℤ, pos, ◌+◌, ◌+ℤ◌, ◌-ℤ◌, ◌<◌, ◌≤◌, ⊤, Bool, false, nat_le, nat_lt, if◌then◌else◌, min, List, ◌++◌, Option}
+use Rattle.std.specs.Prelude.{◌≡◌, ℕ, ℤ, pos, ◌+◌, ◌+ℤ◌, ◌-ℤ◌, ◌<◌, ◌≤◌, ⊤, Bool, false, nat_lt, if◌then◌else◌, min, List, ◌++◌, Option}
 use Rattle.std.specs.FinMap.{entries, values}
 use Rattle.std.specs.List.{AllByRecursion, sum_by}
 use Rattle.account_laws.specs.AccountsTold.{AccountTold, account_told}

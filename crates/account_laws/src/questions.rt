@@ -40,7 +40,6 @@ pub fn pages_tell_the_life()
 
 /// Law: your page offers the release of a job exactly where that would be done at the same moment,
 /// for the units that the job then reserves.
-#[tactic(auto, using(crate::proofs::OfferedReleases::releases_are_offered))]
 pub fn releases_are_offered()
     ensures { ReleasesAreOffered }
 {}
