@@ -26,8 +26,8 @@ abbrev pub question_of : (needs_password : Bool) (moment : ℕ) → Asked → Qu
 question_of needs_password moment (Owner account came stays) =
     Account account (OwnerPage (month_then moment) came stays needs_password)
 question_of needs_password moment (Statement account form months) =
-    let then = months_then moment months in
-    Account account (StatementPage then.first then.last form moment)
+    let asked = months_then moment months in
+    Account account (StatementPage asked.first asked.last form moment)
 question_of needs_password moment _ = Ping
 
 -- ---- the Content-Type of the answer: of a table text/csv (RFC 7111 section 5.1), else that of a page
