@@ -196,7 +196,7 @@ print_is account rest it said =
     option_and_then_some (print_of account pages) (copies_in (before 38 rest)) it said (λ copies found is.
     mapped (λ (count : Option ℕ). asked_is.Print account copies count) pages it is (λ count counted same. ap place_for (sym same)))
 
-statement_place : (account : List ℕ) → Form → Place
+abbrev statement_place : (account : List ℕ) → Form → Place
 statement_place account Paper = Statement account
 statement_place account Csv = Table account
 
