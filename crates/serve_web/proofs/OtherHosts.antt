@@ -6,7 +6,7 @@ use Rattle.sqlite_trees.specs.declared.store.Store.{Ghosts}
 use Rattle.serve_peers.specs.Journals.{shares_of}
 use Rattle.serve_peers.specs.Requests.{has_long_body}
 use Rattle.serve_peers.specs.declared.served.Served.{Served}
-use Rattle.serve_web.specs.Answers.{AnswersAt, AnswersIf, Refuses}
+use Rattle.serve_web.specs.Answers.{AnswersAt, AnswersIf}
 use Rattle.serve_web.specs.Laws.{OtherHostsAreRefused}
 use Rattle.serve_web.specs.Responses.{IsRefusal}
 use Rattle.page_pages.specs.declared.refusal.Refusal.TheVariants.{Busy, Misdirected}

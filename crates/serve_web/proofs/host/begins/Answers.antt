@@ -1,7 +1,7 @@
 use Rattle.std.proofs.Common.{rules, ◌≡◌, ◌&&◌, Bool, true, length, drop, take, ap, sym, ◌∙◌}
 use Rattle.std.proofs.lemmas.List.{take_rest}
 use Rattle.input_http.specs.Words.{is_same_word}
-use Rattle.serve_web.specs.Hosts.{begins, is_port}
+use Rattle.serve_web.specs.Hosts.{is_port}
 use Rattle.serve_web.proofs.host.begins.Goals as goal
 
 pub returns-then-eq_ignore_ascii_case : goal.returns-then-eq_ignore_ascii_case
