@@ -286,6 +286,10 @@ if (form) {
     form.classList.remove('busy');
   });
 }
+// What came of an act stays in view until somebody does the next thing.
+for (const does of ['pointerdown', 'keydown']) {
+  document.addEventListener(does, () => { main.querySelector('.note')?.classList.add('seen'); }, true);
+}
 // A page that was loaded behind an act says what came of it above.
 setTimeout(() => { aloud.textContent = textOf(main.querySelector('.note')); }, 100);
 document.addEventListener('visibilitychange', () => { if (!document.hidden && next) load(); });

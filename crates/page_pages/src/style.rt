@@ -54,7 +54,7 @@ border-radius:10px}
 .note .sign{width:1.5rem;height:1.5rem}
 .note p{max-width:46rem}
 /* it is seen from the row that it is of */
-@media (min-height:30em){.note{position:sticky;top:.5rem;z-index:1}}
+@media (min-height:30em){.note:not(.seen){position:sticky;top:.5rem;z-index:1}}
 tr:has(>:target)>*{background:var(--rest)}
 .good{border-color:var(--juniper)}
 .good .sign{color:var(--juniper)}
@@ -102,9 +102,10 @@ td.count{min-width:3.25rem}
 td.number{font-size:.8125rem;line-height:1.5rem;color:var(--quiet)}
 .state{display:inline-flex;align-items:center;gap:.5rem;font-weight:600}
 td small,th small{display:block;font-weight:400;text-wrap:pretty}
-.jobs:not(.dense) th[scope=row]{min-width:10.5rem}
+.jobs:not(.dense) th[scope=row]{min-width:9.5rem}
+.jobs:not(.dense) :is(td,th):nth-child(9){min-width:5.5rem}
 .jobs:not(.dense) :is(td,th):nth-child(3){min-width:10.5rem}
-.jobs .acts{white-space:nowrap}
+.jobs .acts{overflow-wrap:normal}
 .acts button{padding-inline:.875rem}
 td.acts{padding-block:.5625rem}
 .acts form{display:flex;flex-wrap:wrap;gap:.5rem;justify-content:flex-end}
