@@ -1,5 +1,5 @@
--- Rule: Whether a page of another site sent a form, as browsers tell (RFC 6454 section 7; Fetch
--- Metadata Request Headers section 2.4).
+-- Rule: What browsers tell of the site whose page sent a request (RFC 6454 section 7; Fetch
+-- Metadata Request Headers section 2.4): whether there is one, and for a form whether it is another.
 use Rattle.std.specs.Prelude.{ℕ, Bool, true, false, not, ◌&&◌, ◌||◌, List, Option, Some, None, codes, bytes_eq, is_some}
 use Rattle.http.specs.Request.{head_of}
 use Rattle.http.specs.declared.request.Request.{Request}
@@ -10,6 +10,11 @@ use Rattle.account_rules.specs.QueuePaths.{behind}
 -- the first value of a field
 abbrev pub value_in : (request : Request (List ℕ)) (name : List ℕ) → Option FieldValue
 value_in request name = get (head_of request).headers name
+
+-- a browser sent it; no client of IPP tells either
+abbrev pub is_of_browser : Request (List ℕ) → Bool
+is_of_browser request = is_some (value_in request (codes "origin"))
+    || is_some (value_in request (codes "sec-fetch-site"))
 
 -- a page of this origin asks, or whoever reads in the browser
 abbrev pub is_own_site : Option FieldValue → Bool

@@ -3,10 +3,11 @@
 use Rattle.std.specs.Prelude.{ℕ, Bool, true, false, List, [], ◌++◌, codes, decimal, if◌then◌else◌, length, unwrap_or}
 use Rattle.http.specs.StatusCode.{code_digits, reason_phrase}
 use Rattle.input_http.specs.declared.refusal.Refusal.{Refusal}
-use Rattle.input_http.specs.declared.refusal.Refusal.TheVariants.{BadRequest, MethodNotAllowed, NotFound, UnsupportedMediaType, PayloadTooLarge, HeadTooLarge, NoSpace}
+use Rattle.input_http.specs.declared.refusal.Refusal.TheVariants.{BadRequest, Forbidden, MethodNotAllowed, NotFound, UnsupportedMediaType, PayloadTooLarge, HeadTooLarge, NoSpace}
 
 abbrev pub status_of : Refusal → ℕ
 status_of BadRequest = 400
+status_of Forbidden = 403
 status_of NotFound = 404
 status_of MethodNotAllowed = 405
 status_of PayloadTooLarge = 413

@@ -1,11 +1,19 @@
-//! Whether a form was sent by a page of another site, by what the browser tells (Fetch Metadata,
-//! Origin).
+//! What a browser tells of the site whose page sent a request (Fetch Metadata, Origin): whether there
+//! is one, and whether it is another for a form.
 ghost use Rattle.std.specs.Prelude.{◌≡◌, option_copied};
-ghost use Rattle.input_http.specs.Origins.{is_foreign, is_origin_of, is_own, is_own_origin, is_own_site};
+ghost use Rattle.input_http.specs.Origins.{is_foreign, is_of_browser, is_origin_of, is_own, is_own_origin, is_own_site};
 
 use crate::targets::is_post;
 use bytes::Bytes;
 use http::{HeaderValue, Request};
+
+/// Whether a browser sent the request: it has an Origin or a Sec-Fetch-Site, and no client of IPP
+/// sends either.
+pub fn is_of_browser(request: &Request<Bytes>) -> bool
+    ensures { result ≡ is_of_browser request.now }
+{
+    request.headers().get("origin").is_some() || request.headers().get("sec-fetch-site").is_some()
+}
 
 /// Whether the request is a POST that may come from a page of another site: its browser tells
 /// neither that a page of this site sent it nor that its owner did.

@@ -12,6 +12,8 @@ use http::StatusCode;
 pub enum Refusal {
     /// What came is no message of HTTP, or none of this profile.
     BadRequest,
+    /// A page of some site sent it.
+    Forbidden,
     /// The path is of no queue, or of one that is not open.
     NotFound,
     /// It is no POST.
@@ -35,6 +37,7 @@ impl Refusal {
     {
         match self {
             Refusal::BadRequest => StatusCode::BAD_REQUEST,
+            Refusal::Forbidden => StatusCode::FORBIDDEN,
             Refusal::NotFound => StatusCode::NOT_FOUND,
             Refusal::MethodNotAllowed => StatusCode::METHOD_NOT_ALLOWED,
             Refusal::PayloadTooLarge => StatusCode::PAYLOAD_TOO_LARGE,
