@@ -196,6 +196,25 @@ def long_lines(folder):
             station.expect_end('behind two parts')
 
 
+def lines_that_are_no_text(folder):
+    """A control character, as in what a site has a browser send to such a port, ends the connection: nothing behind it is done."""
+    form = b'POST / HTTP/1.1\r\nHost: 127.0.0.1\r\nContent-Type: text/plain\r\nContent-Length: 27\r\n\r\nopen mallory\nrate d1 9\nend\n'
+    hello = b'\x16\x03\x01\x00\x45\x01\x00\x00\x41\x03\x03' + b'ticket\nopen mallory\nrate d1 9\nend\n'
+    others = (form, hello, b'open mallory\r\nopen mallory\n', b'\x1f\nopen mallory\n', b'open\tmallory\nopen mallory\n')
+    with serving(folder) as room:
+        for said in others:
+            for address in (room.operators, room.stations):
+                with Visitor(address) as visitor:
+                    visitor.send(said)
+                    visitor.expect(b'bad-line\n', 'once')
+                    visitor.expect_end('behind the line')
+        with Visitor(room.operators) as operator:
+            operator.send(b'ping\nopen bob\nopen mallory\0\nopen mallory\n')
+            operator.expect(b'ok\nok\nbad-line\n', 'what stands before it is answered')
+            operator.expect_end('behind the line')
+        expect(converse(room.operators, b'left mallory 2026-09\nleft bob 2026-09\n'), b'no-account\nok granted 0 reserved 0 charged 0 left 0\n', 'what was done')
+
+
 def line_that_is_cut_off(folder):
     """A line that no line feed ends changes nothing, even if it is one of the grammar."""
     with serving(folder) as room:
@@ -226,5 +245,6 @@ def questions_in_rounds(folder):
 
 def cases():
     for case in (ten_seconds, flood, few_requests_a_turn, client_that_ends, body_that_was_asked_for, refusal,
-                 room_for_large_requests, room_for_starts, long_lines, line_that_is_cut_off, questions_in_rounds):
+                 room_for_large_requests, room_for_starts, long_lines, lines_that_are_no_text, line_that_is_cut_off,
+                 questions_in_rounds):
         yield case.__name__.replace('_', ' '), case

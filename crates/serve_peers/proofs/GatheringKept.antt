@@ -1,12 +1,12 @@
 -- What is gathered is nothing that is applied.
-use Rattle.std.proofs.Common.{◌≡◌, ℕ, Bool, true, false, List, [], ◌∷◌, Option, None, Some, refl, sym, ap, subst, ◌∙◌, append-nil}
+use Rattle.std.proofs.Common.{◌≡◌, ℕ, false, List, [], ◌∷◌, Option, None, Some, refl, sym, ap, subst, ◌∙◌}
 use Rattle.sqlite.specs.Held.{Held}
 use Rattle.sqlite_trees.specs.declared.store.Store.{Ghosts}
 use Rattle.serve_peers.proofs.BackupKept.{only_background, rules_of}
 use Rattle.serve_peers.proofs.Journaling.{background_noted}
 use Rattle.serve_peers.specs.Applying.{DoesEach, OnlyLooks}
 use Rattle.serve_peers.specs.Gathering.{AddsBy, StepsOn, gathered_then, next_of}
-use Rattle.serve_peers.specs.Journals.{Notes, asked_of, is_lost_of, open_of, rounds_of, shares_of, store_of}
+use Rattle.serve_peers.specs.Journals.{Notes, asked_of, is_lost_of, shares_of, store_of}
 use Rattle.serve_peers.specs.Keeping.{IsKeptIn, OnlyKeeps}
 use Rattle.serve_peers.specs.Overviews.{GathersBy, GathersOn, with_gathered}
 use Rattle.serve_peers.specs.Turns.{Continues}

@@ -1,5 +1,5 @@
 -- How a connection of lines goes on, one step after another.
-use Rattle.std.proofs.Common.{◌≡◌, ◌≢◌, ◌==◌, ◌<◌, ◌≤◌, ℕ, ◌+◌, Option, None, Some, true, false, nat_lt, List, [], ◌∷◌, ◌++◌, length, length-append, take, drop, refl, sym, ap, ◌∙◌, subst, inl, inr, codes, append_assoc, append-nil, arith}
+use Rattle.std.proofs.Common.{◌≡◌, ◌≢◌, ◌⊎◌, ◌==◌, ◌<◌, ◌≤◌, ℕ, ◌+◌, Option, None, Some, true, false, nat_lt, List, [], ◌∷◌, ◌++◌, length, length-append, take, drop, refl, sym, ap, ◌∙◌, subst, inl, inr, codes, append_assoc, append-nil, arith}
 use Rattle.std.specs.List.{position_or_len}
 use Rattle.std.proofs.lemmas.Bool.{lt-ltb, true≢false}
 use Rattle.std.proofs.lemmas.Grind.{common_steps, flat_map-append}
@@ -10,13 +10,13 @@ use Rattle.std.proofs.KnownBytes.{Appends-nil, Consumes-nil}
 use Rattle.sqlite_trees.specs.declared.store.Store.{Ghosts}
 use Rattle.serve_peers.proofs.Ends.{carry_then, no_bytes}
 use Rattle.serve_peers.proofs.LineEnds.{ends_with_feed}
-use Rattle.serve_peers.specs.Lines.{AnswersLine, IsPutOff, IsQuiet, IsWaiting, Leaves, LosesAnswer, TakesLine, ended_of, input_of, line_end, output_of, received_of, sent_of, side_of}
+use Rattle.serve_peers.specs.Lines.{AnswersLine, BeginsNoText, IsNoText, IsPutOff, IsQuiet, IsWaiting, Leaves, LosesAnswer, TakesLine, ended_of, has_control, input_of, line_end, output_of, received_of, sent_of, side_of}
 use Rattle.serve_peers.specs.declared.line_connection.LineConnection.{LineConnection}
 use Rattle.serve_peers.specs.declared.line_connection.Side.{Side}
 use Rattle.serve_peers.specs.declared.served.Served.{Served}
 use Rattle.serve_peers.specs.LinePeers.{AreLines, Chain, HasNoFeed, IsLine, IsOver, TakenBehind, TakesLines, LineCall, taken, bytes_told}
 use Rattle.serve_peers.specs.Streams.{Ends}
-use Rattle.serve_peers.specs.ProofLineSteps.{IsEnded, ReceivesBytes, RefusesRest, SendsBytes, TakesStep}
+use Rattle.serve_peers.specs.ProofLineSteps.{IsEnded, IsNoLine, ReceivesBytes, RefusesRest, SendsBytes, TakesStep}
 use Rattle.serve_peers.specs.declared.step.Next.{Next}
 use Rattle.serve_peers.specs.declared.step.Next.TheVariants.{Close}
 
@@ -39,8 +39,12 @@ no_feed bytes none k d low =
     let far : length bytes ≤ position_or_len (λ b. b == 10) bytes = grind (arith, common_steps) in
     fails_before_first (λ b. b == 10) bytes k d (omega (arith, low, far))
 
-is_line : (input : List ℕ) (end : ℕ) → line_end input ≡ Some end → IsLine (take (end + 1) input)
-is_line input end is = (take end input, ends_with_feed input end is, no_feed_before input end is)
+is_line : (input : List ℕ) (end : ℕ) → line_end input ≡ Some end → has_control (take end input) ≡ false → IsLine (take (end + 1) input)
+is_line input end is plain = (take end input, ends_with_feed input end is, no_feed_before input end is, plain)
+
+no_line : (input : List ℕ) → IsNoLine input → HasNoFeed input ⊎ BeginsNoText input
+no_line input (inl none) = inl (no_feed input none)
+no_line input (inr begins) = inr begins
 
 -- of no byte there is no line
 no_lines : (over : Type 0) (calls : List LineCall) → AreLines over calls → length (taken calls) ≡ 0 → calls ≡ []
@@ -157,7 +161,7 @@ module _ {S : Type 0} (store : Ghosts S) where
     received = none_more _ _ quiet.0;
     sent = none_more _ _ quiet.1;
     behind = behind_one (output_of before) _ empty;
-    lines = inl (is_line (input_of before) is.end is.first, tt);
+    lines = inl (is_line (input_of before) is.end is.first is.plain, tt);
     ended = λ over. (quiet.2 ∙ over, refl);
   }
 
@@ -258,7 +262,7 @@ module _ {S : Type 0} (store : Ghosts S) where
       side = is.side;
       received = none_more _ _ is.received;
       sent = none_more _ _ is.sent;
-      lines = inr ((is.some, no_feed (input_of before) is.none, refl), refl, (is.ended, ap length is.input));
+      lines = inr ((is.some, no_line (input_of before) is.none, refl), refl, (is.ended, ap length is.input));
       ended = λ over. (is.ended, refl);
       behind = behind_one (output_of before) _ empty;
     },
@@ -296,6 +300,10 @@ module _ {S : Type 0} (store : Ghosts S) where
 
   pub waits : (ends : Ends) (next : Option Next) (before after : LineConnection) (old new : Served S) → IsWaiting before after old new → TakesStep store ends ends next before after old new
   waits ends next before after old new is = (output_of after, waited ends before after old new is, λ goes. refl)
+
+  -- the first line is no text: all is as it was
+  pub no_text_then : (e f : Ends) (next : Option Next) (a b c : LineConnection) (old mid new : Served S) → IsNoText a b old mid → TakesStep store e f next b c mid new → TakesStep store e f next a c old new
+  no_text_then e f next a b c old mid new is later = on e e f next a b c old mid new (rw (is.served, is.connection) (stays e a old)) later
 
   pub put_off : (ends : Ends) (next : Option Next) (before after : LineConnection) (old new : Served S) → IsPutOff before after old new → TakesStep store ends ends next before after old new
   put_off ends next before after old new is = (output_of after, rw (is.served, is.connection) (stays ends before old), λ goes. refl)

@@ -11,7 +11,7 @@ use Rattle.account_questions.specs.declared.question.Question.{Question}
 use Rattle.account_questions.specs.declared.question.Question.TheVariants.{Ping, End, Devices, Accounts, Check, Account}
 use Rattle.serve_peers.specs.Journals.{log_lags_of, moment_of}
 use Rattle.serve_peers.specs.Turns.{AnswersNext, AppliesNext}
-use Rattle.serve_peers.specs.Lines.{IsEntryOf, IsRefusal, MayAsk, TakesLine, grammar_of, input_of, line_end, side_of}
+use Rattle.serve_peers.specs.Lines.{IsEntryOf, IsRefusal, MayAsk, TakesLine, grammar_of, has_control, input_of, line_end, side_of}
 use Rattle.serve_log.specs.declared.refusal.LineRefusal.{LineRefusal}
 use Rattle.serve_log.specs.declared.refusal.LineRefusal.TheVariants.{BadLine, NotYourDevice}
 use Rattle.serve_peers.specs.LineTexts.{answer_text, bad_line_text, has_to_warn, line_text, refused_line}
@@ -36,12 +36,13 @@ ends_with_feed input end is =
 
 module _ {S : Type 0} (store : Ghosts S) where
   -- a line of its side's was applied
-  pub takes_entry : (before after : LineConnection) (old new : Served S) (end : ℕ) (entry : Entry) (told : Result Answered StoreFault) → line_end (input_of before) ≡ Some end → input_of after ≡ drop (end + 1) (input_of before)
+  pub takes_entry : (before after : LineConnection) (old new : Served S) (end : ℕ) (entry : Entry) (told : Result Answered StoreFault) → line_end (input_of before) ≡ Some end → has_control (take end (input_of before)) ≡ false → input_of after ≡ drop (end + 1) (input_of before)
       → is_own (side_of before) (take end (input_of before)) ≡ true → IsEntryOf (grammar_of (side_of before) (moment_of old)) (take end (input_of before)) entry → AppliesNext store entry told old new
       → TakesLine store before after old (line_text told) new
-  takes_entry before after old new end entry told first rest own said next = record {
+  takes_entry before after old new end entry told first plain rest own said next = record {
     end = end;
     first = first;
+    plain = plain;
     rest = rest;
     gives = inl (record {
       line = take end (input_of before);
@@ -56,12 +57,13 @@ module _ {S : Type 0} (store : Ghosts S) where
   }
 
   -- a question was answered
-  pub takes_question : (before after : LineConnection) (old new : Served S) (end : ℕ) (question : Question) (warns : Bool) (told : Result Reply StoreFault) → line_end (input_of before) ≡ Some end → input_of after ≡ drop (end + 1) (input_of before)
+  pub takes_question : (before after : LineConnection) (old new : Served S) (end : ℕ) (question : Question) (warns : Bool) (told : Result Reply StoreFault) → line_end (input_of before) ≡ Some end → has_control (take end (input_of before)) ≡ false → input_of after ≡ drop (end + 1) (input_of before)
       → is_own (side_of before) (take end (input_of before)) ≡ true → MayAsk (side_of before) question → IsQuestionOf (take end (input_of before)) question → AnswersNext store question told old new → warns ≡ has_to_warn question (log_lags_of old)
       → TakesLine store before after old (answer_text warns told) new
-  takes_question before after old new end question warns told first rest own asks said next is = record {
+  takes_question before after old new end question warns told first plain rest own asks said next is = record {
     end = end;
     first = first;
+    plain = plain;
     rest = rest;
     gives = inr (inl (record {
       line = take end (input_of before);
@@ -77,11 +79,12 @@ module _ {S : Type 0} (store : Ghosts S) where
   }
 
   -- a line of a backup was taken
-  pub takes_backup : (before after : LineConnection) (old new : Served S) (end : ℕ) (asked : BackupLine) (told : BackupTold) → line_end (input_of before) ≡ Some end → input_of after ≡ drop (end + 1) (input_of before) → side_of before ≡ Operator
+  pub takes_backup : (before after : LineConnection) (old new : Served S) (end : ℕ) (asked : BackupLine) (told : BackupTold) → line_end (input_of before) ≡ Some end → has_control (take end (input_of before)) ≡ false → input_of after ≡ drop (end + 1) (input_of before) → side_of before ≡ Operator
       → IsBackupOf (take end (input_of before)) asked → AsksNext asked told old new → TakesLine store before after old (backup_text told) new
-  takes_backup before after old new end asked told first rest operator said next = record {
+  takes_backup before after old new end asked told first plain rest operator said next = record {
     end = end;
     first = first;
+    plain = plain;
     rest = rest;
     gives = inr (inr (inl (record {
       line = take end (input_of before);
@@ -96,10 +99,11 @@ module _ {S : Type 0} (store : Ghosts S) where
   }
 
   -- a line that is none of its side's
-  pub takes_bad : (before after : LineConnection) (old new : Served S) (end : ℕ) → line_end (input_of before) ≡ Some end → input_of after ≡ drop (end + 1) (input_of before) → new ≡ old → TakesLine store before after old bad_line_text new
-  takes_bad before after old new end first rest same = record {
+  pub takes_bad : (before after : LineConnection) (old new : Served S) (end : ℕ) → line_end (input_of before) ≡ Some end → has_control (take end (input_of before)) ≡ false → input_of after ≡ drop (end + 1) (input_of before) → new ≡ old → TakesLine store before after old bad_line_text new
+  takes_bad before after old new end first plain rest same = record {
     end = end;
     first = first;
+    plain = plain;
     rest = rest;
     gives = inr (inr (inr (inl refl, same)));
   }
@@ -109,11 +113,12 @@ module _ {S : Type 0} (store : Ghosts S) where
   refuses side line came NotYourDevice ended other = inr (record { line = line; ended = ended; other = other; says = refl })
 
   -- a line that names no device of its door
-  pub takes_refused : (before after : LineConnection) (old new : Served S) (end : ℕ) (why : LineRefusal) → line_end (input_of before) ≡ Some end → input_of after ≡ drop (end + 1) (input_of before)
+  pub takes_refused : (before after : LineConnection) (old new : Served S) (end : ℕ) (why : LineRefusal) → line_end (input_of before) ≡ Some end → has_control (take end (input_of before)) ≡ false → input_of after ≡ drop (end + 1) (input_of before)
       → is_own (side_of before) (take end (input_of before)) ≡ false → new ≡ old → TakesLine store before after old (refused_line why) new
-  takes_refused before after old new end why first rest other same = record {
+  takes_refused before after old new end why first plain rest other same = record {
     end = end;
     first = first;
+    plain = plain;
     rest = rest;
     gives = inr (inr (inr (refuses (side_of before) (take end (input_of before)) (take (end + 1) (input_of before)) why (ends_with_feed (input_of before) end first) other, same)));
   }

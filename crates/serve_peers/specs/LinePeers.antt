@@ -2,7 +2,7 @@
 use Rattle.std.specs.Prelude.{◌≡◌, ◌≢◌, ◌⊎◌, ◌==◌, ◌<◌, ⊤, ℕ, Bool, false, List, [], ◌∷◌, ◌++◌, length, None, IsTrue}
 use Rattle.std.specs.List.{All, flat_map}
 use Rattle.sqlite_trees.specs.declared.store.Store.{Ghosts}
-use Rattle.serve_peers.specs.Lines.{IsTold, ended_of, input_of, line_end, output_of, received_of, sent_of, side_of}
+use Rattle.serve_peers.specs.Lines.{BeginsNoText, IsTold, ended_of, has_control, input_of, line_end, output_of, received_of, sent_of, side_of}
 use Rattle.serve_peers.specs.LineTexts.{bad_line_text}
 use Rattle.serve_peers.specs.declared.line_connection.LineConnection.{LineConnection}
 use Rattle.serve_peers.specs.declared.line_connection.Side.{Side}
@@ -39,13 +39,15 @@ bytes_told calls = flat_map (λ (call : LineCall). call.1) calls
 abbrev pub HasNoFeed : List ℕ → Type 0
 HasNoFeed bytes = All (λ b. (b == 10) ≡ false) bytes
 
--- one line, and the line feed that ends it
+-- one line of text, with no control character, and the line feed that ends it
 abbrev pub IsLine : (came : List ℕ) → Type 0
 IsLine came = (line : List ℕ) × (came ≡ line ++ 10 ∷ []) × HasNoFeed line
+    × (has_control line ≡ false)
 
--- what no line feed ends, which is told to be no line
+-- what no line feed ends, or whose first line has a control character; told once to be no line
 abbrev pub IsRest : LineCall → Type 0
-IsRest call = (0 < length call.0) × HasNoFeed call.0 × (call.1 ≡ bad_line_text)
+IsRest call = (0 < length call.0) × (HasNoFeed call.0 ⊎ BeginsNoText call.0)
+    × (call.1 ≡ bad_line_text)
 
 -- Each is one line. Where nothing more comes the last may be a rest.
 abbrev pub AreLines : (over : Type 0) → List LineCall → Type 0

@@ -1,7 +1,7 @@
 -- Rule: What a line is answered, and what it does to the rooms (all this project's own).
-use Rattle.std.specs.Prelude.{◌≡◌, ◌⊎◌, ◌==◌, ◌||◌, ◌+◌, ℕ, Bool, true, false, List, ◌∷◌, ◌++◌, [], codes, drop, length, take, Option, None, Some, IsTrue, Result}
+use Rattle.std.specs.Prelude.{◌≡◌, ◌⊎◌, ◌==◌, ◌||◌, ◌+◌, ℕ, Bool, true, false, List, ◌∷◌, ◌++◌, [], codes, drop, length, nat_lt, take, Option, None, Some, IsTrue, Result}
 use Rattle.std.specs.Io.KnownBytes.{Appends, Consumes}
-use Rattle.std.specs.List.{flat_map, position, starts_with}
+use Rattle.std.specs.List.{flat_map, list_any, position, starts_with}
 use Rattle.sqlite_trees.specs.declared.store.Store.{Ghosts}
 use Rattle.account_machine.specs.declared.event.Reply.{Reply}
 use Rattle.account_machine.specs.declared.verdict.Answered.{Answered}
@@ -80,6 +80,16 @@ longest_line = 65536
 -- where the first line feed stands
 abbrev pub line_end : List ℕ → Option ℕ
 line_end input = position (λ b. b == 10) input
+
+-- A control character of ASCII stands in it. No line has one, but each line of the head of a request
+-- over HTTP ends with one, and TLS begins with one.
+abbrev pub has_control : List ℕ → Bool
+has_control line = list_any (λ b. nat_lt b 32) line
+
+-- the first line that came has one
+abbrev pub BeginsNoText : (input : List ℕ) → Type 0
+BeginsNoText input = (end : ℕ) × (line_end input ≡ Some end)
+    × IsTrue (has_control (take end input))
 
 -- who may ask what
 abbrev pub MayAsk : (side : Side) (question : Question) → Type 0
@@ -180,6 +190,7 @@ module _ {S : Type 0} (store : Ghosts S) where
       (new : Served S) : Type 0 where
     pub end : ℕ
     pub first : line_end (input_of before) ≡ Some end
+    pub plain : has_control (take end (input_of before)) ≡ false
     pub rest : input_of after ≡ drop (end + 1) (input_of before)
     pub gives : IsTold (side_of before) (take (end + 1) (input_of before)) old text new
 
@@ -197,6 +208,12 @@ module _ {S : Type 0} (store : Ghosts S) where
 pub record IsWaiting {S : Type 0} (before after : LineConnection) (old new : Served S)
     : Type 0 where
   pub none : line_end (input_of before) ≡ None
+  pub connection : after ≡ before
+  pub served : new ≡ old
+
+-- the first line that came is no text; nothing has changed
+pub record IsNoText {S : Type 0} (before after : LineConnection) (old new : Served S) : Type 0 where
+  pub begins : BeginsNoText (input_of before)
   pub connection : after ≡ before
   pub served : new ≡ old
 

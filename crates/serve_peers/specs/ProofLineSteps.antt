@@ -3,7 +3,7 @@
 use Rattle.std.specs.Prelude.{◌≡◌, ◌≢◌, ◌⊎◌, ◌<◌, ℕ, false, true, List, [], ◌++◌, length, None, Option, Some, IsTrue}
 use Rattle.std.specs.Io.KnownBytes.{Appends, Consumes}
 use Rattle.sqlite_trees.specs.declared.store.Store.{Ghosts}
-use Rattle.serve_peers.specs.Lines.{ended_of, input_of, line_end, output_of, received_of, sent_of, side_of}
+use Rattle.serve_peers.specs.Lines.{BeginsNoText, ended_of, input_of, line_end, output_of, received_of, sent_of, side_of}
 use Rattle.serve_peers.specs.LineTexts.{bad_line_text}
 use Rattle.serve_peers.specs.declared.line_connection.LineConnection.{LineConnection}
 use Rattle.serve_peers.specs.declared.served.Served.{Served}
@@ -36,6 +36,10 @@ pub record SendsBytes (given given2 : Option (List ℕ)) (before after : LineCon
   pub sent : sent_of after ≡ sent_of before ++ went
   pub ended : ended_of after ≡ ended_of before
 
+-- no line feed ends it, or its first line has a control character
+abbrev pub IsNoLine : (input : List ℕ) → Type 0
+IsNoLine input = (line_end input ≡ None) ⊎ BeginsNoText input
+
 -- what is left is no line; a connection that is over may have lost what tells so
 pub record RefusesRest (next : Option Next) (before after : LineConnection) : Type 0 where
   pub input : input_of after ≡ []
@@ -44,7 +48,7 @@ pub record RefusesRest (next : Option Next) (before after : LineConnection) : Ty
   pub received : received_of after ≡ received_of before
   pub sent : sent_of after ≡ sent_of before
   pub some : 0 < length (input_of before)
-  pub none : line_end (input_of before) ≡ None
+  pub none : IsNoLine (input_of before)
   pub ended : IsTrue (ended_of after)
 
 -- no more comes: all was said, or what is left is told to be no line

@@ -1,6 +1,6 @@
 -- Rule: What a request over HTTP asks for, or the first refusal that applies (all this project's
--- own): another method than POST, a path of no queue, another type of content, a body that ends
--- within the header of its message.
+-- own): a browser sent it, another method than POST, a path of no queue, another type of content, a
+-- body that ends within the header of its message.
 use Rattle.std.specs.Prelude.{ℕ, Bool, false, List, Option, Some, None, Result, Ok, Err, bytes_eq, codes, if◌then◌else◌, length, nat_lt}
 use Rattle.http.specs.Request.{body_of, head_of}
 use Rattle.http.specs.declared.request.Request.{Request}
@@ -8,9 +8,10 @@ use Rattle.http_header.specs.FieldValue.{FieldValue}
 use Rattle.http_header.specs.HeaderMap.{get}
 use Rattle.http_uri.specs.Uri.{uri_path}
 use Rattle.ipp_coding.specs.Limits.{header_length}
+use Rattle.input_http.specs.Origins.{is_of_browser}
 use Rattle.input_http.specs.Targets.{account_of, is_ipp_type}
 use Rattle.input_http.specs.declared.refusal.Refusal.{Refusal}
-use Rattle.input_http.specs.declared.refusal.Refusal.TheVariants.{BadRequest, MethodNotAllowed, NotFound, UnsupportedMediaType}
+use Rattle.input_http.specs.declared.refusal.Refusal.TheVariants.{BadRequest, Forbidden, MethodNotAllowed, NotFound, UnsupportedMediaType}
 
 -- the first Content-Type counts
 abbrev pub is_ipp_value : Option FieldValue → Bool
@@ -28,10 +29,12 @@ asked_of_queue request (Some account) =
     if nat_lt (length (body_of request)) header_length then Err BadRequest else Ok account
     ) else Err UnsupportedMediaType
 
--- the account whose queue it is for
+-- The account whose queue it is for. What a browser sends may be of any site, under a name that the
+-- site has led here.
 abbrev pub asked : Request (List ℕ) → Result (List ℕ) Refusal
 asked request =
-    if bytes_eq (head_of request).method (codes "POST")
+    if is_of_browser request then Err Forbidden
+    else if bytes_eq (head_of request).method (codes "POST")
     then asked_of_queue request (account_of (uri_path (head_of request).uri))
     else Err MethodNotAllowed
 

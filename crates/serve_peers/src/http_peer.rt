@@ -1,7 +1,7 @@
 //! A peer that speaks HTTP: its connection, what each of its turns does, how long it may take, and
 //! how much it holds.
 
-ghost use Rattle.std.specs.Prelude.{◌≡◌, ◌≢◌, ◌+◌, ◌<◌, ◌↔◌, length, nat_lt, IsFalse, IsTrue, Some};
+ghost use Rattle.std.specs.Prelude.{◌≡◌, ◌≢◌, ◌+◌, ◌<◌, ◌≤◌, ◌↔◌, length, nat_lt, IsFalse, IsTrue, Some};
 ghost use Rattle.input_http.specs.Limits.{longest_body, longest_head};
 ghost use Rattle.http_server.specs.Connection.{config_of, history};
 ghost use Rattle.http_server.specs.History.{new_history};
@@ -206,6 +206,15 @@ impl HttpPeer {
         ensures { IsTrue result ↔ HasAnswer self.now }
     {
         self.connection.wants_write()
+    }
+
+    /// Whether the peer has to send something next: no answer waits to go, and of a request no more
+    /// came than a head may have.
+    pub fn has_to_send(&self) -> bool
+        ensures none_waits { IsTrue result → ¬ (HasAnswer self.now) }
+        ensures few { IsTrue result → came_of self.now ≤ longest_head }
+    {
+        !self.has_output() && self.load.came_so_far() <= HEAD_LIMIT
     }
 
     /// Whether a large answer waits to go.

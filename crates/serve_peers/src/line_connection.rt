@@ -7,7 +7,7 @@ ghost use Rattle.input_lines.specs.Backups.{IsBackupOf};
 ghost use Rattle.serve_peers.specs.LineTexts.{bad_line_text, has_to_warn};
 ghost use Rattle.serve_peers.specs.OwnDevices.{is_own};
 ghost use Rattle.serve_peers.specs.Turns.{Continues};
-ghost use Rattle.serve_peers.specs.Lines.{AnswersLine, Comes, IsEntryOf, IsNewOf, IsPutOff, IsQuiet, IsWaiting, Leaves, LosesAnswer, MayAsk, asks_documents, ended_of, grammar_of, input_of, line_end, output_of, received_of, sent_of, side_of, longest_line};
+ghost use Rattle.serve_peers.specs.Lines.{AnswersLine, Comes, IsEntryOf, IsNewOf, IsNoText, IsPutOff, IsQuiet, IsWaiting, Leaves, LosesAnswer, MayAsk, asks_documents, ended_of, grammar_of, has_control, input_of, line_end, output_of, received_of, sent_of, side_of, longest_line};
 
 use crate::entry::Entry;
 use crate::line_text::{put_answer, put_bad, put_refused, put_told};
@@ -81,6 +81,9 @@ pub enum Front {
     Answered,
     /// It is not whole yet.
     Unended,
+    /// It has a control character, so it is no line of text: perhaps a browser speaks here, made to
+    /// do so by a site, and what comes behind is the site's.
+    NoText,
     /// It is a question, and a round is under way.
     PutOff,
 }
@@ -162,6 +165,8 @@ impl LineConnection {
             → AnswersLine S.Store self.old self.new served.old served.new }
         ensures none { result ≡ Ok Front.Unended
             → IsWaiting self.old self.new served.old served.new }
+        ensures no_text { result ≡ Ok Front.NoText
+            → IsNoText self.old self.new served.old served.new }
         ensures put_off { result ≡ Ok Front.PutOff
             → IsPutOff self.old self.new served.old served.new }
         ensures lost { OnErr result
@@ -173,6 +178,9 @@ impl LineConnection {
         let Some(end) = line_end(self.input.as_slice()) else {
             return Ok(Front::Unended);
         };
+        if has_control(&self.input.as_slice()[..end]) {
+            return Ok(Front::NoText);
+        }
         if !self.side.is_own(&self.input.as_slice()[..end]) {
             return self.refuse_other(served, end);
         }
@@ -195,6 +203,7 @@ impl LineConnection {
         end: usize,
     ) -> Result<Front, AllocError>
         requires first { line_end (input_of self.old) ≡ Some end }
+        requires plain { has_control (take end (input_of self.old)) ≡ false }
         requires other { is_own (side_of self.old) (take end (input_of self.old)) ≡ false }
         ensures taken { OnOk result
             (AnswersLine S.Store self.old self.new served.old served.new) }
@@ -219,10 +228,12 @@ impl LineConnection {
         end: usize,
     ) -> Result<Front, AllocError>
         requires first { line_end (input_of self.old) ≡ Some end }
+        requires plain { has_control (take end (input_of self.old)) ≡ false }
         requires own { is_own (side_of self.old) (take end (input_of self.old)) ≡ true }
         ensures taken { result ≡ Ok Front.Answered
             → AnswersLine S.Store self.old self.new served.old served.new }
         ensures whole { result ≢ Ok Front.Unended }
+        ensures text { result ≢ Ok Front.NoText }
         ensures put_off { result ≡ Ok Front.PutOff
             → IsPutOff self.old self.new served.old served.new }
         ensures lost { OnErr result
@@ -251,6 +262,7 @@ impl LineConnection {
         end: usize,
     ) -> Result<Front, AllocError>
         requires first { line_end (input_of self.old) ≡ Some end }
+        requires plain { has_control (take end (input_of self.old)) ≡ false }
         ensures taken { OnOk result
             (AnswersLine S.Store self.old self.new served.old served.new) }
         ensures answered { IfOk result (λ front. front ≡ Front.Answered) }
@@ -351,6 +363,13 @@ fn line_end(input: &[u8]) -> Option<usize>
     ensures within { IfSome result (λ place. place < length input.now) }
 {
     input.iter().position(|byte| *byte == b'\n')
+}
+
+/// Whether a control character stands in the line.
+fn has_control(line: &[u8]) -> bool
+    ensures { result ≡ has_control line.now }
+{
+    line.iter().any(|byte| *byte < b' ')
 }
 
 /// Why a line that names no device of its door is refused: one that is no station's is bad there

@@ -1,9 +1,11 @@
 //! A peer that speaks lines: what each of its turns does with its connection, and how long it may
 //! take.
 
-ghost use Rattle.std.specs.Prelude.{◌≡◌, ◌≢◌, ◌≤◌, ◌+◌, false, length, nat_lt, IsFalse, None, Some};
+ghost use Rattle.std.specs.Prelude.{◌≡◌, ◌≢◌, ◌≤◌, ◌+◌, [], false, length, nat_lt, IsFalse, IsTrue, Some};
 ghost use Rattle.serve_peers.specs.Turns.{Continues};
-ghost use Rattle.serve_peers.specs.Lines.{IsNewOf, ended_of, input_of, line_end, output_of};
+ghost use Rattle.serve_peers.specs.Patience.{doing_of};
+ghost use Rattle.serve_peers.specs.declared.patience.Doing.TheVariants.{Holds};
+ghost use Rattle.serve_peers.specs.Lines.{IsNewOf, ended_of, input_of, output_of};
 
 use crate::line_connection::Front;
 use crate::patience::Patience;
@@ -33,7 +35,7 @@ impl Drop for LinePeer {
 
 impl LinePeer {
     ghost use Rattle.serve_peers.specs.LinePeers.{HasTaken, TakesTurn, lines_of, patience_of};
-    ghost use Rattle.serve_peers.specs.ProofLineSteps.{IsEnded, ReceivesBytes, SendsBytes, TakesStep};
+    ghost use Rattle.serve_peers.specs.ProofLineSteps.{IsEnded, IsNoLine, ReceivesBytes, SendsBytes, TakesStep};
 
     /// A peer that came just now. It takes no memory.
     pub fn new(alloc: Global, side: Side, ticks: u64) -> LinePeer
@@ -103,6 +105,7 @@ impl LinePeer {
             Ok(Front::Unended) if self.connection.has_ended || self.connection.is_too_long() => {
                 self.end(served, turn.ticks)
             }
+            Ok(Front::NoText) => self.end(served, turn.ticks),
             Ok(Front::Unended) if self.progress.has_all => Some(Next::Wait),
             Ok(Front::Unended) if !turn.reads => Some(Next::Again),
             Ok(Front::Unended) => self.receive(reader, turn),
@@ -152,10 +155,11 @@ impl LinePeer {
         }
     }
 
-    /// Ends the reading: the input has ended, or a line is too long. A rest that is no line is
-    /// answered as a bad one first (`None`: that has to go). Else all was said, and the peer leaves.
+    /// Ends the reading: the input has ended, or a line is too long or no text. A rest that is no
+    /// line is answered as a bad one first (`None`: that has to go), with all that came behind it.
+    /// Else all was said, and the peer leaves.
     fn end<S: Alter>(&mut self, served: &mut Served<S>, ticks: u64) -> Option<Next>
-        requires none { line_end (input_of (lines_of self.old)) ≡ None }
+        requires none { IsNoLine (input_of (lines_of self.old)) }
         ensures ended { IsEnded result (lines_of self.old) (lines_of self.new) }
         ensures same { served.new ≡ served.old }
         ensures waits { result ≢ Some Next.Wait }
@@ -184,6 +188,15 @@ impl LinePeer {
         ensures { result ≡ nat_lt 0 (length (output_of (lines_of self.now))) }
     {
         self.connection.wants_write()
+    }
+
+    /// Whether the peer has to send something next: no answer waits to go, and no line waits for
+    /// memory.
+    pub fn has_to_send(&self) -> bool
+        ensures none_waits { IsTrue result → output_of (lines_of self.now) ≡ [] }
+        ensures none_held { IsTrue result → doing_of (patience_of self.now) ≢ Holds }
+    {
+        !self.has_output() && !self.progress.patience.is_held_back()
     }
 
     /// How many bytes wait: those that came, and those that are to go.

@@ -7,18 +7,21 @@ ghost use Rattle.serve_peers.specs.Space.{brings_job, needs_space};
 use account_machine::Name;
 use bytes::Bytes;
 use http::{HeaderValue, Request, header};
-use input_http::{Refusal, account_of, is_ipp_type, is_post};
+use input_http::{Refusal, account_of, is_ipp_type, is_of_browser, is_post};
 use ipp_coding::{HEADER_LENGTH, header_in};
 
 /// A body of more bytes ends the connection, which would keep the memory that it took.
 const LONG_BODY: usize = 1_048_576;
 
-/// Whose queue the message in the request is for, or the first refusal that applies:
-/// `MethodNotAllowed`, `NotFound` for a path of no queue, `UnsupportedMediaType`, and `BadRequest`
-/// for a body that ends within the header of its message.
+/// Whose queue the message in the request is for, or the first refusal that applies: `Forbidden`
+/// where a browser sent it, `MethodNotAllowed`, `NotFound` for a path of no queue,
+/// `UnsupportedMediaType`, and `BadRequest` for a body that ends within the header of its message.
 pub(crate) fn asked(request: &Request<Bytes>) -> Result<Name, Refusal>
     ensures { result ≡ asked request.now }
 {
+    if is_of_browser(request) {
+        return Err(Refusal::Forbidden);
+    }
     if !is_post(request.method().as_str().as_bytes()) {
         return Err(Refusal::MethodNotAllowed);
     }

@@ -1,4 +1,4 @@
-use Rattle.std.proofs.Common.{◌≡◌, true, false, [], ◌∷◌, ◌++◌, List, map, refl, ap, subst, sym}
+use Rattle.std.proofs.Common.{◌≡◌, false, [], ◌∷◌, ◌++◌, List, map, refl, ap, subst, sym}
 use Rattle.std.proofs.lemmas.Bool.{true≢false}
 use Rattle.serve_peers.specs.Tolds.{Told, round_in}
 use Rattle.serve_peers.specs.Watching.{since_by, told_in, touched_in}

@@ -15,7 +15,7 @@ pub returns-clause-continues : goal.returns-clause-continues
 returns-clause-continues g c = subst (λ (served : Served _). Continues g.S.Store c.args.served.now served) (sym c.log_refused_line.ensures) (stays g.S.Store c.args.served.now)
 
 pub returns-in_err-put_refused-clause-lost : goal.returns-in_err-put_refused-clause-lost
-returns-in_err-put_refused-clause-lost g c = on_err _ _ (inr (_, takes_refused g.S.Store _ _ _ _ _ c.in_ok-why.why c.requires.first c.advance.ensures.items c.requires.other c.log_refused_line.ensures))
+returns-in_err-put_refused-clause-lost g c = on_err _ _ (inr (_, takes_refused g.S.Store _ _ _ _ _ c.in_ok-why.why c.requires.first c.requires.plain c.advance.ensures.items c.requires.other c.log_refused_line.ensures))
 
 pub returns-clause-taken : goal.returns-clause-taken
-returns-clause-taken g c = (_, takes_refused g.S.Store _ _ _ _ _ c.in_ok-why.why c.requires.first c.advance.ensures.items c.requires.other c.log_refused_line.ensures, c.in_ok-put_refused.ensures)
+returns-clause-taken g c = (_, takes_refused g.S.Store _ _ _ _ _ c.in_ok-why.why c.requires.first c.requires.plain c.advance.ensures.items c.requires.other c.log_refused_line.ensures, c.in_ok-put_refused.ensures)

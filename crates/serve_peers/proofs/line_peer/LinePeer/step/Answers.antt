@@ -1,5 +1,5 @@
 use Rattle.std.proofs.Common.{Ok, ap, refl, sym, ◌∙◌}
-use Rattle.serve_peers.proofs.LineCalls.{ended, lost, none_waits, put_off, received, sent, stood, took, waited_then, waits}
+use Rattle.serve_peers.proofs.LineCalls.{ended, lost, no_text_then, none_waits, put_off, received, sent, stood, took, waited_then, waits}
 use Rattle.serve_peers.specs.Lines.{output_of}
 use Rattle.serve_peers.proofs.line_peer.LinePeer.step.Goals as goal
 
@@ -29,3 +29,6 @@ returns-in-Ok-PutOff-clause-takes g c = put_off g.S.Store _ _ _ _ _ _ (c.in-Ok-P
 
 pub returns-in-Err-clause-takes : goal.returns-in-Err-clause-takes
 returns-in-Err-clause-takes g c = lost g.S.Store _ _ _ _ _ _ (none_waits _ (sym c.wants_write.ensures ∙ c.if-wants_write.false)) c.in-Err.ensures.lost c.in-Err.ensures.side c.in-Err.ensures.quiet refl
+
+pub returns-in-Ok-NoText-clause-takes : goal.returns-in-Ok-NoText-clause-takes
+returns-in-Ok-NoText-clause-takes g c = rw c.end-in-Ok-NoText.ensures.same (no_text_then g.S.Store _ _ _ _ _ _ _ _ _ (c.in-Ok-NoText.ensures.no_text (ap Ok c.in-Ok-NoText.field-0-is)) (ended g.S.Store _ _ _ _ _ (ap output_of (c.in-Ok-NoText.ensures.no_text (ap Ok c.in-Ok-NoText.field-0-is)).connection ∙ none_waits _ (sym c.wants_write.ensures ∙ c.if-wants_write.false)) c.end-in-Ok-NoText.ensures.ended))
