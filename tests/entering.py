@@ -1,10 +1,11 @@
 """The doors of `serve`: who comes in by each, and how many are let in."""
-from contextlib import ExitStack
+import time
+from contextlib import ExitStack, contextmanager
 from functools import partial
 
 from database import FILE
 from program import Serving, converse, expect, run_well
-from visitors import Visitor, print_job, printed, serving, valid, validate
+from visitors import Visitor, ask_others, print_job, printed, serving, valid, validate
 
 
 def visitors(folder):
@@ -51,31 +52,73 @@ DOORS = (
 )
 
 
-def full_door(kind, most, says, told, folder):
-    """So many are let in by a further door, who speak what its kind says; another waits until one has gone.
+# Longer than somebody who says nothing keeps a place that another needs.
+LONG = 0.5
+UPLOAD = (b'POST /alice/print?name=a&copies=1&pages=1 HTTP/1.1\r\nHost: localhost\r\nSec-Fetch-Site: same-origin\r\n'
+          b'Content-Type: text/plain\r\nContent-Length: 100000\r\n\r\n' + 20000 * b'a')
 
-    By the other doors one is let in meanwhile.
-    """
-    address = f'{folder}/door'
-    options = (f'--{kind}', f'd1={address}' if kind == 'station' else address)
-    run_well(folder, 'create', FILE)
-    with Serving(f'{folder}/{FILE}', folder, options) as room, ExitStack() as stack:
-        converse(room.operators, b'open alice\ndevice d1 on\n')
+
+def full_door(kind, most, says, told, folder):
+    """So many are let in by a further door, who speak what its kind says; another has the place of who says nothing more."""
+    with at_door(kind, folder) as (room, address), ExitStack() as stack:
         within = [stack.enter_context(Visitor(address)) for _ in range(most)]
         for visitor in within:
             visitor.send(says)
             visitor.expect(told, 'one who is let in')
+        expect(any(visitor.hangs_up(0) for visitor in within), False, 'somebody has left before')
         late = stack.enter_context(Visitor(address))
         late.send(says)
-        late.expect_quiet(room, 'one who waits')
+        late.expect(told, 'one who comes to a full door')
+        expect(any(visitor.hangs_up(0) for visitor in within), True, 'somebody has left')
         expect(converse(room.stations, b'release d1 alice 1 - -\n'), b'no-job\n', 'a station by another door')
         expect(converse(room.port, validate()), valid(), 'a client by another door')
+
+
+def slow_door(kind, most, says, told, folder):
+    """More than a door takes have begun to say something there, and do not end it: whoever comes is answered all the same."""
+    with at_door(kind, folder) as (_, address), ExitStack() as stack:
+        for _ in range(most + 20):
+            stack.enter_context(Visitor(address)).send(says[:3])
+        time.sleep(LONG)
+        for _ in range(3):
+            begun = time.monotonic()
+            late = stack.enter_context(Visitor(address))
+            late.send(says)
+            late.expect(told, 'one who comes behind slow ones')
+            expect(time.monotonic() - begun < 5, True, 'their time was not over before')
+
+
+def busy_door(folder):
+    """Of whom a file is coming nobody loses the place: who comes waits until one has gone."""
+    with at_door('pages', folder) as (room, address), ExitStack() as stack:
+        within = [stack.enter_context(Visitor(address)) for _ in range(256)]
+        for visitor in within:
+            visitor.send(UPLOAD)
+        ask_others(room)
+        time.sleep(LONG)
+        late = stack.enter_context(Visitor(address))
+        late.send(STYLE)
+        late.expect_quiet(room, 'one who waits')
+        time.sleep(LONG)
         late.expect_quiet(room, 'one who waits still')
-        within[most // 2].stream.close()
-        late.expect(told, 'one who waited')
+        within[100].stream.close()
+        late.expect(b'HTTP/1.1 200 OK\r\n', 'one who waited')
+
+
+@contextmanager
+def at_door(kind, folder):
+    """A run of `serve` with a further door of this kind, and where that is."""
+    address = f'{folder}/door'
+    options = (f'--{kind}', f'd1={address}' if kind == 'station' else address)
+    run_well(folder, 'create', FILE)
+    with Serving(f'{folder}/{FILE}', folder, options) as room:
+        converse(room.operators, b'open alice\ndevice d1 on\n')
+        yield room, address
 
 
 def cases():
     yield 'visitors', visitors
     for door in DOORS:
         yield f'a full door of {door[0]}', partial(full_door, *door)
+        yield f'a door of slow {door[0]}', partial(slow_door, *door)
+    yield 'a door at which files come', busy_door

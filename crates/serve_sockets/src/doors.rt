@@ -98,6 +98,8 @@ pub struct Entrance {
     pub(crate) guests: usize,
     /// Somebody may wait, of whom the system will not tell again.
     pub(crate) waits: bool,
+    /// Whoever comes in next, where the door was full when that peer came.
+    next: Option<Stream>,
 }
 
 impl Entrance {
@@ -110,12 +112,45 @@ impl Entrance {
             kind,
             guests: 0,
             waits: false,
+            next: None,
         }
     }
 
     /// The port on which it listens, if it does on one.
     pub fn port(&self) -> Option<u16> {
         self.door.port()
+    }
+
+    /// Whether somebody waits for whom there is no room.
+    pub(crate) fn lacks_room(&self) -> bool {
+        self.next.is_some()
+    }
+
+    /// Takes the next peer, if one waits and there is room. Where the door is full, it only comes to
+    /// know of that peer.
+    fn take_next(&mut self) -> Option<Stream> {
+        if self.next.is_none() {
+            self.next = self.accept();
+        }
+        if self.is_full() {
+            return None;
+        }
+        self.next.take()
+    }
+
+    /// Takes the socket of a peer that waits, if the system has told of one.
+    fn accept(&mut self) -> Option<Stream> {
+        if !self.waits {
+            return None;
+        }
+        match self.door.accept() {
+            Ok(stream) => Some(stream),
+            Err(error) => {
+                // Where it is for lack of descriptors, say, the next tick tries again.
+                self.waits = error.kind() != ErrorKind::WouldBlock;
+                None
+            }
+        }
     }
 
     /// Whether as many are in as its kind lets in.
@@ -180,23 +215,18 @@ impl Peers {
             return;
         };
         for _ in 0..self.most_guests {
-            let Some(entrance) = self.entrances.get_mut(place) else {
+            let Some(stream) = self.next_at(place) else {
                 return;
             };
-            if !entrance.waits || entrance.is_full() {
-                return;
-            }
-            match entrance.door.accept() {
-                Ok(stream) => {
-                    self.take_in(stream, speech, place, ticks);
-                }
-                Err(error) => {
-                    // Where it is for lack of descriptors, say, the next tick tries again.
-                    entrance.waits = error.kind() != ErrorKind::WouldBlock;
-                    return;
-                }
-            }
+            self.take_in(stream, speech, place, ticks);
         }
+    }
+
+    /// Takes the next peer at the door in this place, if one waits and there is room.
+    fn next_at(&mut self, place: usize) -> Option<Stream>
+        ensures { self.new.guests ≡ self.old.guests }
+    {
+        self.entrances.get_mut(place)?.take_next()
     }
 
     /// Takes in a peer who came by the door in this place, or drops it where the system or the

@@ -76,6 +76,8 @@ pub(crate) struct Guest {
     door: usize,
     /// What it asked in a round, until it has another turn once that is settled.
     asked: Option<Entry>,
+    /// Whether its last turn was not to read, so that what it sent may be unread.
+    rests: bool,
     /// Its turns so far, each with what came of it. They take no memory: only proofs read them.
     turns: Log<Turn, Next>,
 }
@@ -88,6 +90,7 @@ impl Drop for Guest {
             peer: _,
             door: _,
             asked: _,
+            rests: _,
             turns: _,
         } = self;
     }
@@ -106,6 +109,7 @@ impl Guest {
             peer,
             door,
             asked: None,
+            rests: false,
             turns: Log::new(),
         }
     }
@@ -143,6 +147,7 @@ impl Guest {
         let mut stream = &self.stream;
         let next = self.peer.drive(&mut stream, &mut Unsent, served, turn);
         self.asked = served.take_asked();
+        self.rests = !turn.reads;
         self.turns = self.turns.and(&turn, &next);
         next
     }
@@ -161,6 +166,7 @@ impl Guest {
         let mut stream = &self.stream;
         let mut sink = stream.sink(served);
         let next = self.peer.drive(&mut stream, &mut sink, served, hears);
+        self.rests = !turn.reads;
         self.turns = self.turns.and(&turn, &next);
         next
     }
@@ -304,6 +310,18 @@ impl Guest {
     /// quarter of a second. It may be let go where too much is held.
     pub(crate) fn reads_slowly(&self, ticks: u64) -> bool {
         self.has_large_answer() && self.patience().is_slow(ticks)
+    }
+
+    /// Whether it has had to send something for a quarter of a second: nothing that it asked is still
+    /// to be read or told.
+    pub(crate) fn is_silent(&self, ticks: u64) -> bool {
+        let has_to_send = match &self.peer {
+            Peer::Http(peer) => peer.has_to_send(),
+            Peer::Pages(peer) => peer.has_to_send(),
+            Peer::Lines(peer) => peer.has_to_send(),
+            Peer::Last(peer) => peer.bytes_held() == 0,
+        };
+        has_to_send && self.asked.is_none() && !self.rests && self.patience().is_slow(ticks)
     }
 
     /// Whether nothing was begun on it, and it keeps the memory of a large request.

@@ -11,7 +11,7 @@ ghost use Rattle.serve_sockets.specs.Doors.{most_of, speech_of};
 ghost use Rattle.serve_sockets.specs.Guests.{NobodyWaits};
 
 use crate::clock::{Reading, moment, ticks};
-use crate::deadlines::TICK;
+use crate::deadlines::{ROOM_TICK, TICK};
 use crate::doors::{Entrance, MOST_GUESTS, Speech, most_guests, speeches_at};
 use crate::guest::Guest;
 use crate::pace::Pace;
@@ -31,7 +31,7 @@ use std::time::{Clock, Duration};
 use store_copy::CopyMaker;
 
 /// How many events are taken from the system at once. So many peers at most share a commit.
-const MOST_EVENTS: usize = 64;
+pub(crate) const MOST_EVENTS: usize = 64;
 
 /// How many milliseconds answers have to go once serving ends.
 const LAST_TICKS: u64 = 5_000;
@@ -74,6 +74,8 @@ pub(crate) struct Peers {
     passes: u64,
     /// Of each key, the pass in which a browser of that key was chosen last.
     chosen_at: Vec<u64>,
+    /// In how many passes, one after another, the system may have had more to tell.
+    pub(crate) full_passes: usize,
 }
 
 // In the place of `#[derive(Drop)]`, so that no caller proves again how each part is dropped.
@@ -93,6 +95,7 @@ impl Drop for Peers {
             chosen: _,
             passes: _,
             chosen_at: _,
+            full_passes: _,
         } = self;
     }
 }
@@ -157,6 +160,7 @@ impl Hall {
             chosen: None,
             passes: 0,
             chosen_at,
+            full_passes: 0,
         };
         Ok(Hall {
             peers,
@@ -221,8 +225,8 @@ impl Hall {
     /// for, at most a slice of it. Where it gathers accounts for the print room's page, it waits
     /// for nothing, and reads one of them. Then it serves each of whom the system told; where the
     /// system told of several, what they ask shares a commit, and nobody is answered before that.
-    /// It lets in who waits at a door, has those go on who were held back where there is memory, and
-    /// drops who took too long. Where the log's file was moved away, the log goes on in a new one.
+    /// It makes room where a door is full, lets in who waits, has those go on who were held back
+    /// where there is memory, and drops who took too long. Where the log's file was moved away, the log goes on in a new one.
     /// That the log can't be written is told once, on standard error. It fails where the system
     /// can't wait, or has no clock.
     pub fn pass<
@@ -249,8 +253,9 @@ impl Hall {
         ended
     }
 
-    /// Has those that the system told of ask in a round, and then gives each its turn. Then it lets
-    /// in who waits, has those go on who were held back, and drops who is late.
+    /// Has those that the system told of ask in a round, and then gives each its turn. Then it makes
+    /// room at the doors, lets in who waits, has those go on who were held back, and drops who is
+    /// late.
     fn serve_told<S: Alter>(&mut self, clock: &impl Clock, served: &mut Served<S>) -> io::Result<()>
         ensures goes_on { GoesOn S.Store (doors_of self.old)
             (guests_of self.old) (guests_of self.new) served.old served.new }
@@ -264,6 +269,7 @@ impl Hall {
         self.peers.share(&self.events, clock, served);
         self.peers.serve_all(&self.events, clock, served);
         let ticks = self.peers.ticks(clock)?;
+        self.peers.make_room(&self.events, ticks);
         self.peers.admit_all(self.doors.as_slice(), ticks);
         self.peers.resume_held_back();
         self.peers.drop_late(ticks);
@@ -298,7 +304,8 @@ impl Peers {
     }
 
     /// How long a pass waits for what comes: no time where there is something to go on with, and
-    /// else a tick. Where nobody is there, it waits until somebody comes.
+    /// else a tick, or less where somebody waits for a place. Where nobody is there, it waits until
+    /// somebody comes.
     fn timeout(&self, goes_on: bool) -> Option<Duration> {
         if goes_on {
             return Some(Duration::ZERO);
@@ -307,7 +314,20 @@ impl Peers {
         if self.guests.is_empty() && !waits {
             return None;
         }
-        Some(Duration::from_millis(TICK))
+        let tick = if self.lack_room() { ROOM_TICK } else { TICK };
+        Some(Duration::from_millis(tick))
+    }
+
+    /// Whether somebody waits for a place at any door.
+    pub(crate) fn lack_room(&self) -> bool {
+        self.entrances.iter().any(|entrance| entrance.lacks_room())
+    }
+
+    /// Whether somebody waits for a place at the door in this place.
+    pub(crate) fn lacks_room(&self, place: usize) -> bool {
+        self.entrances
+            .get(place)
+            .is_some_and(|entrance| entrance.lacks_room())
     }
 
     /// Chooses the browser whose turn it is in the pass: of those of whom the system told, the one

@@ -1,6 +1,6 @@
 use Rattle.std.proofs.Common.{Option, IsSome, ap, refl, subst, sym, ◌∙◌}
 use Rattle.slab.proofs.SlabLemmas.{Updates-with_value}
-use Rattle.slab.specs.Slab.{Slab, get}
+use Rattle.slab.specs.Slab.{get}
 use Rattle.serve_peers.specs.Journals.{moment_of}
 use Rattle.serve_peers.specs.Space.{spare_of}
 use Rattle.serve_peers.specs.declared.served.Served.{Served}
