@@ -1,5 +1,6 @@
 //! `Patient`: a reader of what a process answers while it makes a backup. It tells how much is
 //! copied, and waits as long as that grows.
+ghost use Rattle.std.specs.Prelude.{◌≡◌, ◌++◌, codes, IfOk, string_bytes};
 
 use std::alloc::AllocError;
 use std::fs;
@@ -32,7 +33,15 @@ pub struct Patient<'a, R> {
 
 impl<'a, R: Read + Drop> Patient<'a, R> {
     /// Reads what is answered to a backup into FILE. `AllocError` where memory runs out.
-    pub fn new(rt: &'a HostRuntime, reader: R, file: &str) -> Result<Patient<'a, R>, AllocError> {
+    pub fn new(rt: &'a HostRuntime, reader: R, file: &str) -> Result<Patient<'a, R>, AllocError>
+        ensures reader { IfOk result (λ patient. patient.reader ≡ reader) }
+        ensures part { IfOk result
+            (λ patient. string_bytes patient.part ≡ file.now ++ codes ".part") }
+        ensures wal { IfOk result
+            (λ patient. string_bytes patient.wal ≡ file.now ++ codes ".part-wal") }
+        ensures none_copied { IfOk result (λ patient. patient.copied ≡ 0) }
+        ensures none_idle { IfOk result (λ patient. patient.idle ≡ 0) }
+    {
         Ok(Patient {
             rt,
             reader,
