@@ -1,8 +1,10 @@
 -- What a clause reads of a door: its kind, how many it lets in, and what is spoken there (this
 -- project's own).
-use Rattle.std.specs.Prelude.{◌≡◌, ⊤, ℕ, List, slice_get, Some}
+use Rattle.std.specs.Prelude.{◌≡◌, ⊤, ℕ, Bool, false, true, List, slice_get, Some}
 use Rattle.serve_peers.specs.LinePeers.{lines_of}
 use Rattle.serve_peers.specs.Lines.{side_of}
+use Rattle.serve_sockets.specs.declared.door.Door.{Door}
+use Rattle.serve_sockets.specs.declared.door.Door.TheVariants.{Tcp, Unix}
 use Rattle.serve_sockets.specs.declared.doors.Entrance.{Entrance}
 use Rattle.serve_sockets.specs.declared.doors.Kind.{Kind}
 use Rattle.serve_sockets.specs.declared.doors.Speech.{Speech}
@@ -13,6 +15,14 @@ use Rattle.serve_sockets.specs.declared.guest.Peer.TheVariants.{Http, Last, Line
 
 abbrev pub kind_of : Entrance → Kind
 kind_of entrance = entrance.kind
+
+-- it is on a port of this machine, and no socket at a path
+abbrev pub is_port : Door → Bool
+is_port (Tcp listener) = true
+is_port (Unix listener) = false
+
+abbrev pub is_at_port : Entrance → Bool
+is_at_port entrance = is_port entrance.door
 
 -- the most peers who came in by it and are there
 abbrev pub most_of : Entrance → ℕ

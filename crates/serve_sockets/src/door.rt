@@ -1,5 +1,6 @@
 //! A socket that listens, on a port of this machine or at a path, and how it is opened. What comes
 //! in by it, and how many, is in `doors.rt`.
+ghost use Rattle.std.specs.Prelude.{IsSome, IsTrue};
 
 use crate::stream::Stream;
 use mio::event::Source;
@@ -27,6 +28,8 @@ pub enum Door {
 }
 
 impl Door {
+    ghost use Rattle.serve_sockets.specs.Doors.{is_port};
+
     /// Listens on a port of 127.0.0.1, or on a free one where it is 0.
     pub fn at_port(net: &impl Net, port: u16) -> io::Result<Door> {
         let addr = SocketAddr::V4(SocketAddrV4::new(Ipv4Addr::LOCALHOST, port));
@@ -50,7 +53,9 @@ impl Door {
     }
 
     /// The port that it listens on, if it does on one.
-    pub fn port(&self) -> Option<u16> {
+    pub fn port(&self) -> Option<u16>
+        ensures { IsSome result → IsTrue (is_port self.now) }
+    {
         match self {
             Door::Tcp(listener) => Some(listener.local_addr().ok()?.port()),
             Door::Unix(_) => None,

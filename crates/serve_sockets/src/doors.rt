@@ -1,8 +1,8 @@
 //! What a hall knows of each door: what is spoken there, how many peers may be in, how many are;
 //! and how peers are let in.
 
-ghost use Rattle.std.specs.Prelude.{◌≡◌, ◌≤◌, IfOk, IfSome, List, Some, map, slice_get, sum};
-ghost use Rattle.serve_sockets.specs.Doors.{kind_of, most_of, speech_of};
+ghost use Rattle.std.specs.Prelude.{◌≡◌, ◌≤◌, IfOk, IfSome, IsSome, IsTrue, List, Some, map, slice_get, sum};
+ghost use Rattle.serve_sockets.specs.Doors.{is_at_port, kind_of, most_of, speech_of};
 ghost use Rattle.serve_sockets.specs.Halls.{OnlyEnter};
 
 use crate::door::Door;
@@ -117,7 +117,9 @@ impl Entrance {
     }
 
     /// The port on which it listens, if it does on one.
-    pub fn port(&self) -> Option<u16> {
+    pub fn port(&self) -> Option<u16>
+        ensures { IsSome result → IsTrue (is_at_port self.now) }
+    {
         self.door.port()
     }
 
