@@ -16,6 +16,9 @@ WORDS = ['chromium', '--headless', '--no-sandbox', '--disable-gpu', '--hide-scro
          '--host-resolver-rules=MAP *.example 127.0.0.1']
 KEYS = {'Tab': (9, ''), 'Enter': (13, '\r'), ' ': (32, ' '), 'ArrowUp': (38, ''), 'ArrowDown': (40, '')}
 
+# Roles that ARIA has no word for.
+ROLES = {'DisclosureTriangle': 'disclosure'}
+
 
 class Chromium:
     """A run of it up to the end of the block, with its files in a folder."""
@@ -94,7 +97,7 @@ class ChromiumPage(Page):
     def __init__(self, browser, target, session, width, height):
         self.browser, self.target, self.session, self.media = browser, target, session, {}
         self.heard_alerts, self.heard_faults = [], []
-        for area in ('Page', 'Runtime', 'Log', 'DOM', 'Accessibility'):
+        for area in ('Page', 'Runtime', 'Log', 'DOM'):
             self.ask(f'{area}.enable')
         self.resize(width, height)
 
@@ -214,11 +217,13 @@ class ChromiumPage(Page):
         by_id, told = {node['nodeId']: node for node in nodes}, []
 
         def walk(node):
-            if not node.get('ignored'):
-                told.append(read_node(node))
-            for child in node.get('childIds', []):
-                if child in by_id:
-                    walk(by_id[child])
+            mine = None if node.get('ignored') else read_node(node)
+            if mine:
+                told.append(mine)
+            text = mine.name if mine and mine.role == 'StaticText' else ' '.join(filter(None, (walk(by_id[child]) for child in node.get('childIds', []) if child in by_id)))
+            if mine and 'live' in mine.states:
+                mine.states['text'] = ' '.join(text.split())
+            return text
         walk(nodes[0])
         return told
 
@@ -234,4 +239,4 @@ class ChromiumPage(Page):
 def read_node(node):
     value = {name: node.get(name, {}).get('value', '') for name in ('role', 'name', 'description')}
     states = {one['name']: one['value'].get('value') for one in node.get('properties', [])}
-    return Node(value['role'], value['name'], value['description'], states)
+    return Node(ROLES.get(value['role'], value['role']), value['name'], value['description'], states)

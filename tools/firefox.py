@@ -50,13 +50,21 @@ const walk = (it) => {
   it.getState(bits, high);
   const states = Object.fromEntries(Object.entries(STATES).filter(([, bit]) => bits.value & bit).map(([name]) => [name, true]));
   try { const live = it.attributes?.getStringProperty('live'); if (live) states.live = live; } catch (fault) { }
-  told.push([it.computedARIARole || service.getStringRole(it.role), it.name ?? '', it.description ?? '', states]);
-  for (let child = it.firstChild; child; child = child.nextSibling) walk(child);
+  const role = it.computedARIARole || service.getStringRole(it.role);
+  told.push([role, it.name ?? '', it.description ?? '', states]);
+  const texts = [];
+  for (let child = it.firstChild; child; child = child.nextSibling) texts.push(walk(child));
+  const text = role === 'text leaf' ? it.name ?? '' : texts.filter((part) => part).join(' ');
+  if (states.live) states.text = text.split(/\\s+/).filter((part) => part).join(' ');
+  return text;
 };
 const whole = service.getAccessibleFor(browser);
 const top = whole?.firstChild;
 if (top) walk(top);
 return told;'''
+
+# Roles that ARIA has no word for.
+ROLES = {'summary': 'disclosure', 'password text': 'textbox'}
 
 
 class Firefox:
@@ -284,7 +292,7 @@ class FirefoxPage(Page):
         """What a reader of a screen is told of the page, in its order."""
         end = time.monotonic() + 20
         while True:
-            told = [Node(*one) for one in self.chrome(TREE)]
+            told = [Node(ROLES.get(role, role), *more) for role, *more in self.chrome(TREE)]
             # It is built once it is asked for.
             if len(told) > 3 or time.monotonic() > end:
                 return told
