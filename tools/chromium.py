@@ -124,6 +124,10 @@ class ChromiumPage(Page):
         """Light or dark."""
         self.emulate('prefers-color-scheme', look)
 
+    def be_in(self, zone):
+        """A zone of time, by its name."""
+        self.ask('Emulation.setTimezoneOverride', timezoneId=zone)
+
     def force_colours(self, forced):
         self.emulate('forced-colors', 'active' if forced else 'none')
 

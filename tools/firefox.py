@@ -215,6 +215,10 @@ class FirefoxPage(Page):
         self.chrome('browser.browsingContext.prefersColorSchemeOverride = arguments[0];', look)
         wait_until(lambda: self.run(f'matchMedia("(prefers-color-scheme: {look})").matches'), 20, look)
 
+    def be_in(self, zone):
+        """A zone of time, by its name."""
+        self.chrome('browser.browsingContext.timezoneOverride = arguments[0];', zone)
+
     def force_colours(self, forced):
         self.is_forced = forced
         self.chrome('Services.prefs.setIntPref("browser.display.document_color_use", arguments[0]);', 2 if forced else 0)
