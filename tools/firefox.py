@@ -43,7 +43,8 @@ WATCH = '''window.dialogsTold = [];
 Services.obs.addObserver((dialog) => window.dialogsTold.push(String(dialog.Dialog?.args?.text)), 'common-dialog-loaded');'''
 
 TREE = '''const service = Cc['@mozilla.org/accessibilityService;1'].getService(Ci.nsIAccessibilityService);
-const STATES = { checked: 0x10, pressed: 0x8, focused: 0x4, expanded: 0x200, collapsed: 0x400, disabled: 0x1, invalid: 0x20, required: 0x4000000 };
+const STATES = Object.fromEntries(['checked', 'pressed', 'focused', 'expanded', 'collapsed', 'unavailable', 'invalid', 'required']
+  .map((name) => [name, Ci.nsIAccessibleStates['STATE_' + name.toUpperCase()]]));
 const told = [];
 const walk = (it) => {
   const bits = {}, high = {};
