@@ -21,6 +21,8 @@ PREFERENCES = {
     'browser.shell.checkDefaultBrowser': False,
     'browser.startup.page': 0,
     'browser.tabs.inTitlebar': 0,
+    # Few processes, and none beforehand.
+    'dom.ipc.processPrelaunch.enabled': False,
     'datareporting.policy.dataSubmissionEnabled': False,
     'toolkit.telemetry.reportingpolicy.firstRun': False,
     'widget.non-native-theme.enabled': True,
