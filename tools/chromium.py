@@ -128,8 +128,10 @@ class ChromiumPage(Page):
         """A zone of time, by its name."""
         self.ask('Emulation.setTimezoneOverride', timezoneId=zone)
 
-    def force_colours(self, forced):
-        self.emulate('forced-colors', 'active' if forced else 'none')
+    def force_colours(self, look):
+        """Black on white, or white on black, in place of the pages' own. With none the pages have theirs."""
+        self.be(look or 'light')
+        self.emulate('forced-colors', 'active' if look else 'none')
 
     def emulate(self, feature, value):
         self.media[feature] = value

@@ -174,7 +174,7 @@ class FirefoxPage(Page):
 
     def close(self):
         if self.is_forced:
-            self.force_colours(False)
+            self.force_colours(None)
         if self.larger != 1:
             self.write_larger(1)
         self.browser.enter(self.handle)
@@ -222,10 +222,16 @@ class FirefoxPage(Page):
         """A zone of time, by its name."""
         self.chrome('browser.browsingContext.timezoneOverride = arguments[0];', zone)
 
-    def force_colours(self, forced):
-        self.is_forced = forced
-        self.chrome('Services.prefs.setIntPref("browser.display.document_color_use", arguments[0]);', 2 if forced else 0)
-        wait_until(lambda: self.run('matchMedia("(forced-colors: active)").matches') == forced, 20, 'the colours')
+    def force_colours(self, look):
+        """Black on white, or white on black, as who sets colours of their own in place of the pages'. With none the pages have theirs."""
+        self.is_forced = look is not None
+        colours = ['#ffffff', '#000000', '#ffff00'] if look == 'dark' else ['#000000', '#ffffff', '#0000ee']
+        self.chrome('''Services.prefs.setIntPref('browser.display.document_color_use', arguments[0] ? 2 : 0);
+            Services.prefs.setBoolPref('browser.display.use_system_colors', false);
+            for (const end of ['', '.dark']) ['foreground', 'background', 'anchor'].forEach((name, place) =>
+              Services.prefs.setCharPref('browser.display.' + name + '_color' + end, arguments[1][place]));
+            browser.browsingContext.prefersColorSchemeOverride = arguments[0] ?? 'none';''', look, colours)
+        wait_until(lambda: self.run('matchMedia("(forced-colors: active)").matches') == self.is_forced, 20, 'the colours')
 
     def allow_scripts(self, allowed):
         self.chrome('browser.browsingContext.allowJavascript = arguments[0];', allowed)
@@ -237,7 +243,7 @@ class FirefoxPage(Page):
 
     def run(self, script):
         """The value of an expression, for which it is waited."""
-        told = self.ask('WebDriver:ExecuteAsyncScript', script=EVALUATE % script, args=[], scriptTimeout=1000 * MOST_WAIT, sandbox='default')['value']
+        told = self.ask('WebDriver:ExecuteAsyncScript', script=EVALUATE % script, args=[], scriptTimeout=1000 * MOST_WAIT, sandbox=None)['value']
         want(told, WENT[0])
         want(told[0] == 'value', f'{script[:200]}: {told[1]}')
         return None if told[1] is None else json.loads(told[1])
