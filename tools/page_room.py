@@ -7,7 +7,7 @@ import threading
 import urllib.parse
 
 from messages import CANCEL_JOB, MOMENT, PRINT_JOB, RELEASE_JOB, answer_to, attribute, integer, message, request
-from serving import Serving, connect, create
+from serving import Serving, connect, create, run
 from station_room import want
 
 NOW = datetime.datetime.now(datetime.timezone.utc)
@@ -73,6 +73,10 @@ class Room:
         """With two devices, 100 pages of this month for alice, and what came earlier, as lines of a script."""
         first = ['device hall on', 'device studio on', 'rate studio 5', f'grant alice {MONTH} 100', *lines]
         create(self.path, accounts, [*(f'{MOMENT} {line}' for line in first), *earlier])
+        self.serve(options)
+
+    def serve(self, options=()):
+        """The file that is there."""
         self.serving = Serving(self.path, options=['--pages', '0', '--host', 'printroom.example', '--log', self.log, *options]).__enter__()
         self.port = int(dict(self.serving.doors)['pages'])
         self.url = f'http://127.0.0.1:{self.port}'
@@ -180,7 +184,22 @@ def earlier():
 
 
 def people(room):
-    """A room as it is at noon: a month so far, jobs in each state, and six accounts."""
+    """A room as it is at noon: a month so far, jobs in each state, and six accounts. It is made once; all further ones are copies."""
+    if not NOON:
+        make_people(room)
+        run('backup', room.serving.operators, f'{room.folder}/noon')
+        with open(f'{room.folder}/noon', 'rb') as file:
+            NOON.append(file.read())
+        return
+    with open(room.path, 'wb') as file:
+        file.write(NOON[0])
+    room.serve()
+
+
+NOON = []
+
+
+def make_people(room):
     last_month = f'{NOW.replace(day=1) - datetime.timedelta(days=3):%Y-%m}'
     lines = ['device library-2 off', f'grant carol {last_month} 4000', f'grant bob {MONTH} 40', f'grant emma {MONTH} 60']
     room.begin(['alice', 'bob', 'carol', 'dimitri', 'emma', 'zoe'], lines, list(earlier()))
