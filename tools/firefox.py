@@ -228,8 +228,8 @@ class FirefoxPage(Page):
         colours = ['#ffffff', '#000000', '#ffff00'] if look == 'dark' else ['#000000', '#ffffff', '#0000ee']
         self.chrome('''Services.prefs.setIntPref('browser.display.document_color_use', arguments[0] ? 2 : 0);
             Services.prefs.setBoolPref('browser.display.use_system_colors', false);
-            for (const end of ['', '.dark']) ['foreground', 'background', 'anchor'].forEach((name, place) =>
-              Services.prefs.setCharPref('browser.display.' + name + '_color' + end, arguments[1][place]));
+            for (const end of ['', '.dark']) ['display.foreground', 'display.background', 'anchor', 'visited', 'active'].forEach((name, place) =>
+              Services.prefs.setCharPref('browser.' + name + '_color' + end, arguments[1][Math.min(place, 2)]));
             browser.browsingContext.prefersColorSchemeOverride = arguments[0] ?? 'none';''', look, colours)
         wait_until(lambda: self.run('matchMedia("(forced-colors: active)").matches') == self.is_forced, 20, 'the colours')
 
