@@ -37,6 +37,60 @@ function tell(texts, isGood) {
   setTimeout(() => { aloud.textContent = texts.join(' '); }, 100);
 }
 
+// ---- times and the chart, as they came, are shown to who reads
+
+const LANGUAGE = document.documentElement.lang;
+const CLOCK = new Intl.DateTimeFormat(LANGUAGE, { day: 'numeric', month: 'short', year: 'numeric', hour: '2-digit', minute: '2-digit', hourCycle: 'h23',
+  timeZoneName: 'short' });
+
+// Puts times into the zone of who reads, and says which that is. A time that names no zone is in UTC.
+function putTimes(part) {
+  part.querySelectorAll('time').forEach((time) => {
+    const at = new Date(time.dateTime);
+    if (Number.isNaN(at.getTime()) || at.getTimezoneOffset() === 0) return;
+    const told = Object.fromEntries(CLOCK.formatToParts(at).map((one) => [one.type, one.value]));
+    time.textContent = told.day + ' ' + told.month + ' ' + told.year + ', ' + told.hour + ':' + told.minute + ' ';
+    time.append(make('small', { textContent: told.timeZoneName }));
+  });
+}
+
+// The least number that is 1, 2 or 5 with zeros behind and has room for this many.
+const round = (units) => {
+  const zeros = 10 ** Math.floor(Math.log10(units));
+  return [1, 2, 5, 10].map((digit) => digit * zeros).find((number) => number >= units);
+};
+
+function draw(name, set, text) {
+  const part = document.createElementNS('http://www.w3.org/2000/svg', name);
+  Object.entries(set).forEach(([key, value]) => part.setAttribute(key, value));
+  part.textContent = text;
+  return part;
+}
+
+// Draws the bars of the month again by an axis. Where at most two days are far above all others, theirs are cut and tell their number.
+function drawChart() {
+  const figure = main.querySelector('.chart');
+  const days = [...figure?.parentElement.querySelectorAll('.days td') ?? []].map((cell) => Number(cell.textContent));
+  const most = [...days].sort((one, other) => other - one), usual = most[2] ?? 0;
+  if (!most[0]) return;
+  const top = round(usual > 0 && most[0] > 4 * usual ? usual : most[0]);
+  figure.querySelector('.scale')?.remove();
+  const scale = draw('svg', { class: 'scale', 'aria-hidden': true }, '');
+  const write = (units, places) => scale.append(draw('text', places, units.toLocaleString(LANGUAGE)));
+  [0, top / 2, top].filter(Number.isInteger).forEach((units) => {
+    const y = 100 - 100 * units / top + '%';
+    scale.append(draw('line', { x2: '100%', y1: y, y2: y }, ''));
+    write(units, { class: 'tick', x: '-8', y });
+  });
+  figure.querySelectorAll('.charged').forEach((bar, day) => {
+    const height = Math.min(1000, 1000 * days[day] / top);
+    bar.setAttribute('y', 1000 - height);
+    bar.setAttribute('height', height);
+    if (days[day] > top) write(days[day], { class: 'cut', x: 100 * (day + .5) / days.length + '%', y: '-8' });
+  });
+  figure.append(scale);
+}
+
 // ---- a page takes the place of what is here
 
 const isField = (part) => part?.matches('input, textarea, select');
@@ -79,6 +133,7 @@ function show(page) {
     old.delete(name);
     if (before && isInUse(before)) { last = before; return; }
     const mine = document.adoptNode(part);
+    putTimes(mine);
     mine.querySelectorAll('details').forEach((box, place) => { box.open = before?.querySelectorAll('details')[place]?.open ?? false; });
     if (before) before.replaceWith(mine); else if (last) last.after(mine); else main.prepend(mine);
     last = mine;
@@ -86,6 +141,7 @@ function show(page) {
   old.forEach((part) => { if (!isInUse(part)) part.remove(); });
   if (isHere && !main.contains(document.activeElement)) focus(was);
   choose();
+  drawChart();
 }
 
 // ---- the page loads itself anew, as it would without a script
@@ -293,6 +349,8 @@ for (const does of ['pointerdown', 'keydown']) {
 // A page that was loaded behind an act says what came of it above.
 setTimeout(() => { aloud.textContent = textOf(main.querySelector('.note')); }, 100);
 document.addEventListener('visibilitychange', () => { if (!document.hidden && next) load(); });
+putTimes(main);
 choose();
+drawChart();
 wait();
 ";
