@@ -54,7 +54,7 @@ border-radius:10px}
 .note .sign{width:1.5rem;height:1.5rem}
 .note p{max-width:46rem}
 /* it is seen from the row that it is of */
-@media (min-height:30em){.note:not(.seen){position:sticky;top:.5rem;z-index:1}}
+.note:not(.seen){position:sticky;top:.5rem;z-index:1;max-height:50vh;overflow:auto}
 tr:has(>:target)>*{background:var(--rest)}
 .good{border-color:var(--juniper)}
 .good .sign{color:var(--juniper)}
@@ -79,7 +79,7 @@ border:1px solid var(--edge);border-radius:3px;background:var(--card);vertical-a
 .tiles dd{font:700 1.875rem/1.2 var(--serif)}
 .devices{display:grid;grid-template-columns:repeat(auto-fill,minmax(min(100%,15rem),1fr));gap:.75rem;
 padding:0;list-style:none}
-.devices li{display:flex;flex-wrap:wrap;justify-content:space-between;gap:.25rem 1rem;
+.devices li{display:flex;flex-wrap:wrap;align-items:baseline;justify-content:space-between;gap:.25rem 1rem;
 padding:.75rem 1rem;border:1px solid var(--rule);border-radius:8px}
 .devices b{width:100%;overflow-wrap:anywhere}
 .devices .off{border-style:dashed;border-color:var(--edge)}
@@ -96,7 +96,8 @@ tbody tr:last-child>*{border-bottom:0}
 .count,.when,.number{font-variant-numeric:tabular-nums}
 .when{white-space:nowrap}
 td{overflow-wrap:anywhere}
-td.count{min-width:3.25rem}
+td.count{min-width:3.25rem;overflow-wrap:normal}
+td.count small{overflow-wrap:anywhere}
 .dense td.count{min-width:5rem}
 .jobs:not(.dense) :is(td,th):nth-child(4){min-width:5.75rem}
 .jobs:not(.dense) :is(td,th):nth-child(5){min-width:5.75rem}
