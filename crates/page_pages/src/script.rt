@@ -67,13 +67,14 @@ function draw(name, set, text) {
   return part;
 }
 
-// Draws the bars of the month again by an axis. Where at most two days are far above all others, theirs are cut and tell their number.
+// Draws the bars of the month again, by an axis. A bar is cut, and tells its number, where its day has over five times what is usual.
 function drawChart() {
   const figure = main.querySelector('.chart');
   const days = [...figure?.parentElement.querySelectorAll('.days td') ?? []].map((cell) => Number(cell.textContent));
-  const most = [...days].sort((one, other) => other - one), usual = most[2] ?? 0;
-  if (!most[0]) return;
-  const top = round(usual > 0 && most[0] > 4 * usual ? usual : most[0]);
+  const some = days.filter((units) => units > 0).sort((one, other) => other - one);
+  if (!some.length) return;
+  const usual = some[Math.floor(some.length / 2)];
+  const top = round(some.find((units) => units <= 5 * usual));
   figure.querySelector('.scale')?.remove();
   const scale = draw('svg', { class: 'scale', 'aria-hidden': true }, '');
   const write = (units, places) => scale.append(draw('text', places, units.toLocaleString(LANGUAGE)));
