@@ -105,18 +105,20 @@ const nameOf = (part, index, parts) => {
   return name + ' ' + parts.slice(0, index).filter((other) => (other.getAttribute('aria-labelledby') ?? other.className) === name).length;
 };
 
-// What has the focus, told so that it is found in another page: a button by its form, a link by where it leads.
+// What has the focus, told so that it is found in another page: a button by its form, a link by where it leads, a box by its name.
 function focused() {
   const part = document.activeElement;
   const of = part?.closest('form')?.getAttribute('action');
-  return { of, act: part?.value, link: part?.getAttribute('href'), isOpen: part?.matches('summary'), top: part?.getBoundingClientRect().top };
+  return { of, act: part?.value, link: part?.getAttribute('href'), box: part?.getAttribute('aria-label'), isOpen: part?.matches('summary'),
+    isOfMany: part?.closest('.chosen') !== null, top: part?.getBoundingClientRect().top };
 }
 
-function focus({ of, act, link, isOpen, top }) {
+function focus({ of, act, link, box, isOpen, isOfMany, top }) {
   const buttons = of ? [...main.querySelectorAll('form[action=\"' + CSS.escape(of) + '\"] button')] : [];
-  const links = link ? [...main.querySelectorAll('a')].filter((part) => part.getAttribute('href') === link) : [];
-  const part = buttons.find((button) => button.value === act) ?? buttons[0] ?? links[0] ?? (isOpen ? main.querySelector('summary') : null)
-    ?? (of?.match(/[/][0-9]+$/) ? document.getElementById('waiting') : null);
+  const alike = (name, value) => value ? [...main.querySelectorAll('[' + name + ']')].find((part) => part.getAttribute(name) === value) : null;
+  const part = buttons.find((button) => button.value === act) ?? buttons[0] ?? alike('href', link) ?? alike('aria-label', box)
+    ?? (isOpen ? main.querySelector('summary') : null) ?? (isOfMany ? main.querySelector('.chosen button:enabled') : null)
+    ?? (isOfMany || box || of?.match(/[/][0-9]+$/) ? document.getElementById('waiting') : null);
   if (!part) return;
   if (!part.matches('a, button, summary')) part.tabIndex = -1;
   part.focus({ preventScroll: true });
@@ -140,9 +142,9 @@ function show(page) {
     last = mine;
   });
   old.forEach((part) => { if (!isInUse(part)) part.remove(); });
-  if (isHere && !main.contains(document.activeElement)) focus(was);
   choose();
   drawChart();
+  if (isHere && !main.contains(document.activeElement)) focus(was);
 }
 
 // ---- the page loads itself anew, as it would without a script
