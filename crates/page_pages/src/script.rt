@@ -51,13 +51,14 @@ function putTimes(part) {
     const told = Object.fromEntries(CLOCK.formatToParts(at).map((one) => [one.type, one.value]));
     time.textContent = told.day + ' ' + told.month + ' ' + told.year + ', ' + told.hour + ':' + told.minute + ' ';
     time.append(make('small', { textContent: told.timeZoneName }));
+    if (time.nextSibling?.nodeType === 3) time.nextSibling.textContent = time.nextSibling.textContent.replace(/^ UTC/, '');
   });
 }
 
-// The least number that is 1, 2 or 5 with zeros behind and has room for this many.
+// The least number of one digit, with zeros behind, that has room for this many. Half of it is as short.
 const round = (units) => {
   const zeros = 10 ** Math.floor(Math.log10(units));
-  return [1, 2, 5, 10].map((digit) => digit * zeros).find((number) => number >= units);
+  return [1, 2, 3, 4, 5, 6, 8, 10].map((digit) => digit * zeros).find((number) => number >= units);
 };
 
 function draw(name, set, text) {

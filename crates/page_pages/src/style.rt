@@ -75,11 +75,11 @@ border:1px solid var(--edge);border-radius:3px;background:var(--card);vertical-a
 .key-reserved::before{background:var(--soft);border-color:var(--soft)}
 .tiles{display:grid;grid-template-columns:repeat(auto-fit,minmax(9rem,1fr));gap:1.5rem}
 /* the numbers of a row stand on one line */
-.tiles>div{display:flex;flex-direction:column;justify-content:space-between}
+.tiles>div{display:flex;flex-direction:column;justify-content:space-between;gap:.375rem}
 .tiles dd{font:700 1.875rem/1.2 var(--serif)}
 .devices{display:grid;grid-template-columns:repeat(auto-fill,minmax(min(100%,15rem),1fr));gap:.75rem;
 padding:0;list-style:none}
-.devices li{display:flex;flex-wrap:wrap;align-items:baseline;justify-content:space-between;gap:.25rem 1rem;
+.devices li{display:flex;flex-wrap:wrap;align-items:center;justify-content:space-between;gap:.25rem 1rem;
 padding:.75rem 1rem;border:1px solid var(--rule);border-radius:8px}
 .devices b{width:100%;overflow-wrap:anywhere}
 .devices .off{border-style:dashed;border-color:var(--edge)}
