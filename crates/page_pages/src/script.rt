@@ -76,7 +76,7 @@ function drawChart() {
   if (!some.length) return;
   const usual = some[Math.floor(some.length / 2)];
   const top = round(some.find((units) => units <= 5 * usual));
-  figure.querySelector('.scale')?.remove();
+  figure.querySelectorAll('.scale, .gap').forEach((old) => old.remove());
   const scale = draw('svg', { class: 'scale', 'aria-hidden': true }, '');
   const write = (units, places) => scale.append(draw('text', places, units.toLocaleString(LANGUAGE)));
   [0, top / 2, top].filter(Number.isInteger).forEach((units) => {
@@ -88,7 +88,9 @@ function drawChart() {
     const height = Math.min(1000, 1000 * days[day] / top);
     bar.setAttribute('y', 1000 - height);
     bar.setAttribute('height', height);
-    if (days[day] > top) write(days[day], { class: 'cut', x: 100 * (day + .5) / days.length + '%', y: '-8' });
+    if (days[day] <= top) return;
+    write(days[day], { class: 'cut', x: 100 * (day + .5) / days.length + '%', y: '-8' });
+    bar.parentElement.append(draw('line', { class: 'gap', x1: day, x2: day + 1, y1: 90, y2: 90 }, ''));
   });
   figure.append(scale);
 }

@@ -146,11 +146,12 @@ summary{padding:.5rem 0;font-weight:600;color:var(--juniper);cursor:pointer}
 /* the month */
 .chart svg{display:block;width:100%;height:12rem;border-block:1px solid var(--edge);border-top:1px dashed var(--rule)}
 /* the script's axis: numbers at their heights, and above a bar that is cut */
-.chart{position:relative}
+.chart{position:relative;isolation:isolate}
 .chart:has(.scale){padding:1.75rem 0 0 4rem}
-.chart .scale{position:absolute;top:1.75rem;left:4rem;right:0;width:calc(100% - 4rem);border:0;overflow:visible;
+.chart .scale{position:absolute;z-index:-1;top:1.75rem;left:4rem;right:0;width:calc(100% - 4rem);border:0;overflow:visible;
 pointer-events:none;font-size:.8125rem;fill:currentColor;color:var(--quiet);font-variant-numeric:tabular-nums}
 .scale line{stroke:var(--rule)}
+.gap{stroke:var(--card);stroke-width:30}
 .tick{text-anchor:end;dominant-baseline:middle}
 .cut{text-anchor:middle;font-weight:600}
 .chart figcaption{display:flex;justify-content:space-between;margin-top:.25rem}
@@ -200,6 +201,7 @@ button{min-height:2.75rem}
 @media (forced-colors:active){
 .bar,.key::before{forced-color-adjust:none;border-color:CanvasText}
 .chart .charged{forced-color-adjust:none;fill:CanvasText}
+.gap{stroke:Canvas}
 }
 /* paper */
 .sheet{width:100%;max-width:56rem;margin-inline:auto}
