@@ -89,7 +89,7 @@ function drawChart() {
     bar.setAttribute('y', 1000 - height);
     bar.setAttribute('height', height);
     if (days[day] <= top) return;
-    write(days[day], { class: 'cut', x: 100 * (day + .5) / days.length + '%', y: '-8' });
+    write(days[day], { class: 'cut', x: 100 * (day + .5) / days.length + '%', y: '-12' });
     bar.parentElement.append(draw('line', { class: 'gap', x1: day, x2: day + 1, y1: 90, y2: 90 }, ''));
   });
   figure.append(scale);
