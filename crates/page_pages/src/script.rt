@@ -322,12 +322,21 @@ async function handIn() {
     form.reset();
     goOn(page);
     tell([said], true);
+    lead(document.getElementById('job-' + came.get('job')));
     return [];
   }
   const field = form.elements[FIELDS[came.get('why')] ?? FIELDS[reply.status]];
   if (field) return [[field, said]];
   say(said);
   return [];
+}
+
+// Leads to the row of a job that came. Its name has the focus, and no button, which would be pressed by mistake.
+function lead(name) {
+  if (!name) return;
+  name.tabIndex = -1;
+  name.focus({ preventScroll: true });
+  name.scrollIntoView({ block: 'center' });
 }
 
 function say(text) { document.getElementById('sent').textContent = text; }

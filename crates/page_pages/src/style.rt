@@ -55,7 +55,7 @@ border-radius:10px}
 .note p{max-width:46rem}
 /* it is seen from the row that it is of */
 .note:not(.seen){position:sticky;top:.5rem;z-index:1;max-height:50vh;overflow:auto}
-tr:has(>:target)>*{background:var(--rest)}
+tr:has(>:target)>*,tr:has(>th:focus)>*{background:var(--rest)}
 .good{border-color:var(--juniper)}
 .good .sign{color:var(--juniper)}
 /* what is left */
