@@ -147,6 +147,7 @@ function show(page) {
   old.forEach((part) => { if (!isInUse(part)) part.remove(); });
   choose();
   drawChart();
+  pointToForm();
   if (isHere && !main.contains(document.activeElement)) focus(was);
 }
 
@@ -268,6 +269,12 @@ function choose() {
 
 // ---- the form to print
 
+// Leads from the head of the page to the form, which stands below all that waits.
+function pointToForm() {
+  const head = document.getElementById('hand-in'), title = main.querySelector('.title');
+  if (form && !title.querySelector('[href=\"#hand-in\"]')) title.append(make('a', { href: '#hand-in', textContent: head.textContent }));
+}
+
 // At which field a refusal is said, by its word or its status.
 const FIELDS = { 'password-too-long': 'password', 'job-name-too-long': 'file', 'document-format': 'file', 'document-too-large': 'file', template: 'copies',
   413: 'file', 415: 'file' };
@@ -367,5 +374,6 @@ document.addEventListener('visibilitychange', () => { if (!document.hidden && ne
 putTimes(main);
 choose();
 drawChart();
+pointToForm();
 wait();
 ";

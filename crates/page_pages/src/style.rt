@@ -55,7 +55,7 @@ border-radius:10px}
 .note p{max-width:46rem}
 /* it is seen from the row that it is of */
 .note:not(.seen){position:sticky;top:.5rem;z-index:1;max-height:50vh;overflow:auto}
-tr:has(>:target)>*,tr:has(>th:focus)>*{background:var(--rest)}
+tr:has(>:target),tr:has(>th:focus){background:var(--rest)}
 .good{border-color:var(--juniper)}
 .good .sign{color:var(--juniper)}
 /* what is left */
@@ -178,6 +178,7 @@ padding:1rem 0;border-bottom:1px solid var(--rule)}
 .jobs.dense tr>:is(th,.number){flex-basis:100%}
 .jobs.dense .count::before{display:inline}
 .jobs .acts:not(:has(button)){display:none}
+.jobs time small{display:inline}
 }
 @media screen and (min-width:36em) and (max-width:72em){
 .jobs:not(.dense) tr{grid-template-columns:repeat(6,minmax(0,1fr))}
