@@ -37,6 +37,64 @@ function tell(texts, isGood) {
   setTimeout(() => { aloud.textContent = texts.join(' '); }, 100);
 }
 
+// ---- times and the chart, as they came, are shown to who reads
+
+const LANGUAGE = document.documentElement.lang;
+const CLOCK = new Intl.DateTimeFormat(LANGUAGE, { day: 'numeric', month: 'short', year: 'numeric', hour: '2-digit', minute: '2-digit', hourCycle: 'h23',
+  timeZoneName: 'short' });
+
+// Puts times into the zone of who reads, and says which that is. A time that names no zone is in UTC.
+function putTimes(part) {
+  part.querySelectorAll('time').forEach((time) => {
+    const at = new Date(time.dateTime);
+    if (Number.isNaN(at.getTime()) || at.getTimezoneOffset() === 0) return;
+    const told = Object.fromEntries(CLOCK.formatToParts(at).map((one) => [one.type, one.value]));
+    time.textContent = told.day + ' ' + told.month + ' ' + told.year + ', ' + told.hour + ':' + told.minute + ' ';
+    time.append(make('small', { textContent: told.timeZoneName }));
+    if (time.nextSibling?.nodeType === 3) time.nextSibling.textContent = time.nextSibling.textContent.replace(/^ UTC/, '');
+  });
+}
+
+// The least number of one digit, with zeros behind, that has room for this many. Half of it is as short.
+const round = (units) => {
+  const zeros = 10 ** Math.floor(Math.log10(units));
+  return [1, 2, 3, 4, 5, 6, 8, 10].map((digit) => digit * zeros).find((number) => number >= units);
+};
+
+function draw(name, set, text) {
+  const part = document.createElementNS('http://www.w3.org/2000/svg', name);
+  Object.entries(set).forEach(([key, value]) => part.setAttribute(key, value));
+  part.textContent = text;
+  return part;
+}
+
+// Draws the bars of the month again, by an axis. A bar is cut, and tells its number, where its day has over five times what is usual.
+function drawChart() {
+  const figure = main.querySelector('.chart');
+  const days = [...figure?.parentElement.querySelectorAll('.days td') ?? []].map((cell) => Number(cell.textContent));
+  const some = days.filter((units) => units > 0).sort((one, other) => other - one);
+  if (!some.length) return;
+  const usual = some[Math.floor(some.length / 2)];
+  const top = round(some.find((units) => units <= 5 * usual));
+  figure.querySelectorAll('.scale, .gap').forEach((old) => old.remove());
+  const scale = draw('svg', { class: 'scale', 'aria-hidden': true }, '');
+  const write = (units, places) => scale.append(draw('text', places, units.toLocaleString(LANGUAGE)));
+  [0, top / 2, top].filter(Number.isInteger).forEach((units) => {
+    const y = 100 - 100 * units / top + '%';
+    scale.append(draw('line', { x2: '100%', y1: y, y2: y }, ''));
+    write(units, { class: 'tick', x: '-8', y });
+  });
+  figure.querySelectorAll('.charged').forEach((bar, day) => {
+    const height = Math.min(1000, 1000 * days[day] / top);
+    bar.setAttribute('y', 1000 - height);
+    bar.setAttribute('height', height);
+    if (days[day] <= top) return;
+    write(days[day], { class: 'cut', x: 100 * (day + .5) / days.length + '%', y: '-12' });
+    bar.parentElement.append(draw('line', { class: 'gap', x1: day, x2: day + 1, y1: 90, y2: 90 }, ''));
+  });
+  figure.append(scale);
+}
+
 // ---- a page takes the place of what is here
 
 const isField = (part) => part?.matches('input, textarea, select');
@@ -50,18 +108,20 @@ const nameOf = (part, index, parts) => {
   return name + ' ' + parts.slice(0, index).filter((other) => (other.getAttribute('aria-labelledby') ?? other.className) === name).length;
 };
 
-// What has the focus, told so that it is found in another page: a button by its form, a link by where it leads.
+// What has the focus, told so that it is found in another page: a button by its form, a link by where it leads, a box by its name.
 function focused() {
   const part = document.activeElement;
   const of = part?.closest('form')?.getAttribute('action');
-  return { of, act: part?.value, link: part?.getAttribute('href'), isOpen: part?.matches('summary'), top: part?.getBoundingClientRect().top };
+  return { of, act: part?.value, link: part?.getAttribute('href'), box: part?.getAttribute('aria-label'), isOpen: part?.matches('summary'),
+    isOfMany: part?.closest('.chosen') !== null, top: part?.getBoundingClientRect().top };
 }
 
-function focus({ of, act, link, isOpen, top }) {
+function focus({ of, act, link, box, isOpen, isOfMany, top }) {
   const buttons = of ? [...main.querySelectorAll('form[action=\"' + CSS.escape(of) + '\"] button')] : [];
-  const links = link ? [...main.querySelectorAll('a')].filter((part) => part.getAttribute('href') === link) : [];
-  const part = buttons.find((button) => button.value === act) ?? buttons[0] ?? links[0] ?? (isOpen ? main.querySelector('summary') : null)
-    ?? (of?.match(/[/][0-9]+$/) ? document.getElementById('waiting') : null);
+  const alike = (name, value) => value ? [...main.querySelectorAll('[' + name + ']')].find((part) => part.getAttribute(name) === value) : null;
+  const part = buttons.find((button) => button.value === act) ?? buttons[0] ?? alike('href', link) ?? alike('aria-label', box)
+    ?? (isOpen ? main.querySelector('summary') : null) ?? (isOfMany ? main.querySelector('.chosen button:enabled') : null)
+    ?? (isOfMany || box || of?.match(/[/][0-9]+$/) ? document.getElementById('waiting') : null);
   if (!part) return;
   if (!part.matches('a, button, summary')) part.tabIndex = -1;
   part.focus({ preventScroll: true });
@@ -79,13 +139,16 @@ function show(page) {
     old.delete(name);
     if (before && isInUse(before)) { last = before; return; }
     const mine = document.adoptNode(part);
+    putTimes(mine);
     mine.querySelectorAll('details').forEach((box, place) => { box.open = before?.querySelectorAll('details')[place]?.open ?? false; });
     if (before) before.replaceWith(mine); else if (last) last.after(mine); else main.prepend(mine);
     last = mine;
   });
   old.forEach((part) => { if (!isInUse(part)) part.remove(); });
-  if (isHere && !main.contains(document.activeElement)) focus(was);
   choose();
+  drawChart();
+  pointToForm();
+  if (isHere && !main.contains(document.activeElement)) focus(was);
 }
 
 // ---- the page loads itself anew, as it would without a script
@@ -206,6 +269,12 @@ function choose() {
 
 // ---- the form to print
 
+// Leads from the head of the page to the form, which stands below all that waits.
+function pointToForm() {
+  const head = document.getElementById('hand-in'), title = main.querySelector('.title');
+  if (form && !title.querySelector('[href=\"#hand-in\"]')) title.append(make('a', { href: '#hand-in', textContent: head.textContent }));
+}
+
 // At which field a refusal is said, by its word or its status.
 const FIELDS = { 'password-too-long': 'password', 'job-name-too-long': 'file', 'document-format': 'file', 'document-too-large': 'file', template: 'copies',
   413: 'file', 415: 'file' };
@@ -260,12 +329,21 @@ async function handIn() {
     form.reset();
     goOn(page);
     tell([said], true);
+    lead(document.getElementById('job-' + came.get('job')));
     return [];
   }
   const field = form.elements[FIELDS[came.get('why')] ?? FIELDS[reply.status]];
   if (field) return [[field, said]];
   say(said);
   return [];
+}
+
+// Leads to the row of a job that came. Its name has the focus, and no button, which would be pressed by mistake.
+function lead(name) {
+  if (!name) return;
+  name.tabIndex = -1;
+  name.focus({ preventScroll: true });
+  name.scrollIntoView({ block: 'center' });
 }
 
 function say(text) { document.getElementById('sent').textContent = text; }
@@ -293,6 +371,9 @@ for (const does of ['pointerdown', 'keydown']) {
 // A page that was loaded behind an act says what came of it above.
 setTimeout(() => { aloud.textContent = textOf(main.querySelector('.note')); }, 100);
 document.addEventListener('visibilitychange', () => { if (!document.hidden && next) load(); });
+putTimes(main);
 choose();
+drawChart();
+pointToForm();
 wait();
 ";

@@ -5,12 +5,12 @@ pub const STYLE_SHEET: &str =
     "/* The pages' one style sheet: light and dark, a telephone, paper. Nothing comes from elsewhere. */
 :root{color-scheme:light dark;
 --ground:#f5f5f0;--card:#fff;--rule:#dddfd6;--edge:#767f78;--ink:#161f1a;--quiet:#4d5851;
---juniper:#17594a;--deep:#0e4236;--on:#fff;--soft:#8fbcae;--rest:#e5e8e1;
+--juniper:#17594a;--deep:#0e4236;--on:#fff;--soft:#5a9a89;--rest:#e5e8e1;
 --serif:Charter,'Bitstream Charter',Georgia,'Noto Serif','DejaVu Serif',serif;
 --sans:system-ui,-apple-system,'Segoe UI',Roboto,'Noto Sans','Liberation Sans',sans-serif}
 @media (prefers-color-scheme:dark){:root{
 --ground:#0f1412;--card:#181f1c;--rule:#323b37;--edge:#7f8b85;--ink:#e8eeea;--quiet:#a9b5af;
---juniper:#82d2b8;--deep:#a8e4d0;--on:#0a1d17;--soft:#3a6d5f;--rest:#29322e}}
+--juniper:#82d2b8;--deep:#a8e4d0;--on:#0a1d17;--soft:#457a6c;--rest:#29322e}}
 *{box-sizing:border-box}
 html{text-size-adjust:100%;-webkit-text-size-adjust:100%}
 body{margin:0;background:var(--ground);color:var(--ink);font:1rem/1.5 var(--sans)}
@@ -54,29 +54,32 @@ border-radius:10px}
 .note .sign{width:1.5rem;height:1.5rem}
 .note p{max-width:46rem}
 /* it is seen from the row that it is of */
-@media (min-height:30em){.note:not(.seen){position:sticky;top:.5rem;z-index:1}}
-tr:has(>:target)>*{background:var(--rest)}
+.note:not(.seen){position:sticky;top:.5rem;z-index:1;max-height:50vh;overflow:auto}
+tr:has(>:target),tr:has(>th:focus){background:var(--rest)}
 .good{border-color:var(--juniper)}
 .good .sign{color:var(--juniper)}
 /* what is left */
 .balance{display:grid;grid-template-columns:fit-content(20rem) minmax(0,1fr);gap:1rem 3rem;align-items:center}
 .big{font-size:3rem;line-height:1.1;overflow-wrap:anywhere;font-variant-numeric:tabular-nums}
-.bar{display:block;width:100%;height:1.125rem;border-radius:5px;background:var(--rest)}
-.charged{fill:var(--juniper)}
+/* each part stands out 3 to 1 from the next, and from the card */
+.bar{display:block;width:100%;height:1.125rem;border:1px solid var(--edge);border-radius:5px;background:var(--card)}
+.charged{fill:var(--deep)}
 .reserved{fill:var(--soft)}
 .facts{display:flex;flex-wrap:wrap;gap:.5rem 2rem;margin-top:.875rem}
 .facts>div{display:flex;align-items:baseline;gap:.5rem}
 dt{font-size:.8125rem;color:var(--quiet)}
 dd{font-weight:600;font-variant-numeric:tabular-nums;overflow-wrap:anywhere}
 .key::before{content:'';display:inline-block;width:.75rem;height:.75rem;margin-right:.4375rem;
-border:1px solid var(--edge);border-radius:3px;background:var(--rest);vertical-align:-1px}
-.key-charged::before{background:var(--juniper);border-color:var(--juniper)}
+border:1px solid var(--edge);border-radius:3px;background:var(--card);vertical-align:-1px}
+.key-charged::before{background:var(--deep);border-color:var(--deep)}
 .key-reserved::before{background:var(--soft);border-color:var(--soft)}
 .tiles{display:grid;grid-template-columns:repeat(auto-fit,minmax(9rem,1fr));gap:1.5rem}
+/* the numbers of a row stand on one line */
+.tiles>div{display:flex;flex-direction:column;justify-content:space-between;gap:.375rem}
 .tiles dd{font:700 1.875rem/1.2 var(--serif)}
 .devices{display:grid;grid-template-columns:repeat(auto-fill,minmax(min(100%,15rem),1fr));gap:.75rem;
 padding:0;list-style:none}
-.devices li{display:flex;flex-wrap:wrap;justify-content:space-between;gap:.25rem 1rem;
+.devices li{display:flex;flex-wrap:wrap;align-items:center;justify-content:space-between;gap:.25rem 1rem;
 padding:.75rem 1rem;border:1px solid var(--rule);border-radius:8px}
 .devices b{width:100%;overflow-wrap:anywhere}
 .devices .off{border-style:dashed;border-color:var(--edge)}
@@ -93,7 +96,8 @@ tbody tr:last-child>*{border-bottom:0}
 .count,.when,.number{font-variant-numeric:tabular-nums}
 .when{white-space:nowrap}
 td{overflow-wrap:anywhere}
-td.count{min-width:3.25rem}
+td.count{min-width:3.25rem;overflow-wrap:normal}
+td.count small{overflow-wrap:anywhere}
 .dense td.count{min-width:5rem}
 .jobs:not(.dense) :is(td,th):nth-child(4){min-width:5.75rem}
 .jobs:not(.dense) :is(td,th):nth-child(5){min-width:5.75rem}
@@ -141,10 +145,22 @@ input[type=checkbox]{width:1.25rem;min-height:1.25rem;height:1.25rem;margin:0 .5
 summary{padding:.5rem 0;font-weight:600;color:var(--juniper);cursor:pointer}
 /* the month */
 .chart svg{display:block;width:100%;height:12rem;border-block:1px solid var(--edge);border-top:1px dashed var(--rule)}
+/* the script's axis: numbers at their heights, and above a bar that is cut */
+.chart{position:relative;isolation:isolate}
+.chart:has(.scale){padding:1.75rem 0 0 4rem}
+.chart .scale{position:absolute;z-index:-1;top:1.75rem;left:4rem;right:0;width:calc(100% - 4rem);border:0;overflow:visible;
+pointer-events:none;font-size:.8125rem;fill:currentColor;color:var(--quiet);font-variant-numeric:tabular-nums}
+.scale line{stroke:var(--rule)}
+.gap{stroke:var(--card);stroke-width:30}
+.tick{text-anchor:end;dominant-baseline:middle}
+.cut{text-anchor:middle;font-weight:600}
 .chart figcaption{display:flex;justify-content:space-between;margin-top:.25rem}
 .days{columns:13rem;column-gap:2rem}
 .pager{display:flex;flex-wrap:wrap;gap:.5rem 1.5rem}
 nav.pager{margin-top:1rem}
+/* the zone of a time */
+time small{white-space:nowrap}
+.jobs.dense time small,.title time small{display:inline}
 /* a narrow window: each row is a card */
 @media screen and (max-width:72em){
 .jobs thead{position:absolute;width:1px;height:1px;overflow:hidden;clip-path:inset(50%)}
@@ -162,6 +178,7 @@ padding:1rem 0;border-bottom:1px solid var(--rule)}
 .jobs.dense tr>:is(th,.number){flex-basis:100%}
 .jobs.dense .count::before{display:inline}
 .jobs .acts:not(:has(button)){display:none}
+.jobs time small{display:inline}
 }
 @media screen and (min-width:36em) and (max-width:72em){
 .jobs:not(.dense) tr{grid-template-columns:repeat(6,minmax(0,1fr))}
@@ -182,7 +199,11 @@ button{min-height:2.75rem}
 .fields button,.find{width:100%}
 .find div{flex:1}
 }
-@media (forced-colors:active){.bar,.chart svg,.key::before{forced-color-adjust:none}}
+@media (forced-colors:active){
+.bar,.key::before{forced-color-adjust:none;border-color:CanvasText}
+.chart .charged{forced-color-adjust:none;fill:CanvasText}
+.gap{stroke:Canvas}
+}
 /* paper */
 .sheet{width:100%;max-width:56rem;margin-inline:auto}
 .foot.sheet{max-width:59rem}
@@ -192,7 +213,7 @@ button{min-height:2.75rem}
 @page{margin:18mm 16mm}
 @media print{
 :root{color-scheme:light;--ground:#fff;--card:#fff;--rule:#bbb;--edge:#444;--ink:#000;--quiet:#333;
---juniper:#000;--deep:#000;--soft:#999;--rest:#eee}
+--juniper:#000;--deep:#000;--soft:#888;--rest:#eee}
 html{font-size:10pt}
 .banner{border-top:0}
 .banner>div,main,.foot{max-width:none;padding-inline:0}

@@ -10,7 +10,7 @@ pub(crate) const PRINT_ROOM: &str = "Print room";
 
 pub(crate) const SKIP: &str = "Skip to the content";
 
-pub(crate) const TIMES: &str = "Times and days are in UTC.";
+pub(crate) const TIMES: &str = "Days are in UTC, and so are times that name no zone.";
 
 // ---- what is left
 pub(crate) const ACCOUNT: &str = "Account";
