@@ -138,6 +138,10 @@ input[type=checkbox]{width:1.25rem;min-height:1.25rem;height:1.25rem;margin:0 .5
 .fields~p,noscript p{margin-top:1rem}
 .find{display:flex;gap:.5rem;align-items:end}
 .find button{min-height:2.75rem}
+.acts>div{display:flex;flex-wrap:wrap;gap:.5rem 1rem;justify-content:flex-end}
+.acts .few{width:5rem;min-height:2.5rem}
+.acts>div form{flex-wrap:nowrap}
+code{overflow-wrap:anywhere}
 summary{padding:.5rem 0;font-weight:600;color:var(--juniper);cursor:pointer}
 /* the month */
 .chart svg{display:block;width:100%;height:12rem;border-block:1px solid var(--edge);border-top:1px dashed var(--rule)}
