@@ -1,0 +1,2 @@
+pub mod ForeignForms
+pub mod Nobody
