@@ -44,6 +44,8 @@ pub record TellsLine (call : Call) (told : Told) : Type 0 where
   pub deed : Deed
   pub does : deed_of line.action ≡ Some deed
   pub page : LineTold
+  pub of_line : page.line.now ≡ line_of (body_of call.0)
+  pub by : page.operator ≡ operator
   pub came : page.came ≡ came_told deed told.1
   pub tells : IsTold page (has_long_body call.0) call.1 ⊎ IsLost call.1
 
