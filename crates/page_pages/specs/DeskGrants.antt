@@ -1,6 +1,6 @@
 -- Rule: The grants of an account, and the month by which units are given back (all this project's own).
-use Rattle.std.specs.Prelude.{ℕ, ◌-◌, Bool, ◌==◌, if◌then◌else◌, length, nat_lt, not, List, [], ◌∷◌, ◌++◌, codes, find, flat_map, Option}
-use Rattle.std.specs.List.{list_any, range, reverse}
+use Rattle.std.specs.Prelude.{ℕ, zero, suc, ◌+◌, ◌-◌, Bool, ◌==◌, if◌then◌else◌, length, nat_lt, not, List, [], ◌∷◌, ◌++◌, codes, find, flat_map, Option}
+use Rattle.std.specs.List.{list_any}
 use Rattle.account_rules.specs.Limits.{first_month}
 use Rattle.account_rules.specs.declared.account.Grant.{Grant}
 use Rattle.page_markup.specs.Parts.{Part, html, Mark, Month, Number}
@@ -59,10 +59,16 @@ grants_card grants =
 abbrev pub is_for : (month : ℕ) → Grant → Bool
 is_for month it = it.month == month
 
--- the months from 1970-01 on before January 2000, the last first
-abbrev pub months_back : List ℕ
-months_back = reverse (range first_month first_of_grants)
+-- so many months from 1970-01 on, the last first
+pub months_back : (count : ℕ) → List ℕ
+months_back zero = []
+months_back (suc count) = first_month + count ∷ months_back count
 
--- the last of them that has no grant
+-- the first of them that has no grant
+abbrev pub free_within : List Grant → (count : ℕ) → Option ℕ
+free_within grants count =
+    find (λ month. not (list_any (is_for month) grants)) (months_back count)
+
+-- the last before January 2000
 abbrev pub free_month : List Grant → Option ℕ
-free_month grants = find (λ month. not (list_any (is_for month) grants)) months_back
+free_month grants = free_within grants (first_of_grants - first_month)

@@ -1,8 +1,8 @@
 //! The grants of an account, on the desk's page of it, and the month by which units are given back.
 
-ghost use Rattle.std.specs.Prelude.{◌≡◌, ◌++◌, OnOk, flat_map};
+ghost use Rattle.std.specs.Prelude.{◌≡◌, ◌++◌, ◌≤◌, OnOk, flat_map};
 ghost use Rattle.std.specs.List.{list_any};
-ghost use Rattle.page_pages.specs.DeskGrants.{free_month, given_back_row, grant_item, grant_row, grants_card, grants_columns, is_for, table_of_grants};
+ghost use Rattle.page_pages.specs.DeskGrants.{free_month, free_within, given_back_row, grant_item, grant_row, grants_card, grants_columns, is_for, table_of_grants};
 ghost use Rattle.page_pages.specs.Frames.{card, remark};
 ghost use Rattle.page_markup.specs.Parts.{html};
 
@@ -70,9 +70,23 @@ fn put_grant_item(out: &mut Vec<u8>, grant: &Grant) -> Result<(), AllocError>
 pub(crate) fn free_month(grants: &[Grant]) -> Option<u32>
     ensures { result ≡ free_month grants.now }
 {
-    (FIRST_MONTH..FIRST_OF_GRANTS)
-        .rev()
-        .find(|month| !has_grant(grants, *month))
+    free_within(grants, FIRST_OF_GRANTS - FIRST_MONTH)
+}
+
+/// Gives the last of so many months, from the first that there is on, that has no grant.
+fn free_within(grants: &[Grant], count: u32) -> Option<u32>
+    requires { count ≤ 360 }
+    ensures { result ≡ free_within grants.now count }
+{
+    if count == 0 {
+        return None;
+    }
+    let month = FIRST_MONTH + (count - 1);
+    if has_grant(grants, month) {
+        free_within(grants, count - 1)
+    } else {
+        Some(month)
+    }
 }
 
 /// Whether the month has a grant.

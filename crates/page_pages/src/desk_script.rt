@@ -38,7 +38,7 @@ document.addEventListener('submit', async (event) => {
     const told = await send(new URLSearchParams(new FormData(form, event.submitter)));
     if (told.isDone) form.reset();
     await showAnew();
-    tell([told.texts.join(' ')], told.isDone);
+    tell([told.isDone ? told.texts.slice(1).join(' ') : told.texts.join(': ')], told.isDone);
   } catch (fault) { tell([document.getElementById('desk').dataset.broken], false); }
   isSending = false;
 }, true);
