@@ -11,7 +11,7 @@ use Rattle.page_pages.specs.declared.texts.TheConstants.{DESK, DEVICES, NO_KNOWN
 -- the heads of the columns
 unfoldable pub desk_columns : List Part
 desk_columns =
-    Mark (codes "<table class=\"dense\">\n<thead><tr><th scope=\"col\">")
+    Mark (codes "<table class=\"jobs dense\">\n<thead><tr><th scope=\"col\">")
     ∷ Mark DEVICE.now
     ∷ Mark (codes "</th><th scope=\"col\">")
     ∷ Mark STATE.now
@@ -32,7 +32,9 @@ desk_device name symbol state rate =
     ∷ Mark symbol
     ∷ Mark (codes "\"/></svg>")
     ∷ Mark state
-    ∷ Mark (codes "</span></td><td class=\"count\">")
+    ∷ Mark (codes "</span></td><td class=\"count\" data-label=\"")
+    ∷ Mark UNITS_A_PAGE.now
+    ∷ Mark (codes "\">")
     ∷ Number rate
     ∷ Mark (codes "</td>")
     ∷ []

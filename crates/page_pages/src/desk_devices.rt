@@ -114,7 +114,7 @@ fn put_desk_columns(out: &mut Vec<u8>) -> Result<(), AllocError>
     put_all(
         out,
         &[
-            Piece::Mark("<table class=\"dense\">\n<thead><tr><th scope=\"col\">"),
+            Piece::Mark("<table class=\"jobs dense\">\n<thead><tr><th scope=\"col\">"),
             Piece::Mark(DEVICE),
             Piece::Mark("</th><th scope=\"col\">"),
             Piece::Mark(STATE),
@@ -147,7 +147,9 @@ fn put_desk_device<'a>(
             Piece::Mark(symbol),
             Piece::Mark("\"/></svg>"),
             Piece::Mark(state),
-            Piece::Mark("</span></td><td class=\"count\">"),
+            Piece::Mark("</span></td><td class=\"count\" data-label=\""),
+            Piece::Mark(UNITS_A_PAGE),
+            Piece::Mark("\">"),
             Piece::Number(rate as u64),
             Piece::Mark("</td>"),
         ],
