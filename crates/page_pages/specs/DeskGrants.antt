@@ -62,7 +62,7 @@ is_for month it = it.month == month
 -- so many months from 1970-01 on, the last first
 pub months_back : (count : ℕ) → List ℕ
 months_back zero = []
-months_back (suc count) = first_month + count ∷ months_back count
+months_back (suc count) = (first_month + count) ∷ months_back count
 
 -- the first of them that has no grant
 abbrev pub free_within : List Grant → (count : ℕ) → Option ℕ

@@ -11,7 +11,7 @@ use Rattle.input_lines.specs.declared.action.Action.TheVariants as action
 use Rattle.input_lines.specs.declared.owner_request.OwnerAct.{OwnerAct}
 use Rattle.input_lines.specs.declared.owner_request.OwnerAct.TheVariants as owner_act
 use Rattle.page_pages.specs.declared.desk_told.Came.{Came}
-use Rattle.page_pages.specs.declared.desk_told.Came.TheVariants as came
+use Rattle.page_pages.specs.declared.desk_told.Came.TheVariants as came_is
 use Rattle.page_pages.specs.declared.desk_told.Deed.{Deed}
 use Rattle.page_pages.specs.declared.desk_told.Deed.TheVariants.{Open, Grant, Cancel, Hold, TurnOn, TurnOff, Rate}
 use Rattle.page_pages.specs.declared.desk_told.Onward.{Onward}
@@ -42,14 +42,14 @@ onward_of (action.Rate name units) = Devices
 onward_of _ = Accounts
 
 abbrev pub came_by : Deed → Verdict → Came
-came_by deed (verdict_is.Done status job) = came.Done deed
-came_by deed (verdict_is.Refused refusal job) = came.Refused refusal.word
+came_by deed (verdict_is.Done status job) = came_is.Done deed
+came_by deed (verdict_is.Refused refusal job) = came_is.Refused refusal.word
 
 -- the word why not, also of an account that is not open
 abbrev pub came_of : Deed → Reply → Verdict → Came
-came_of deed NoAccount verdict = came.Refused word_is.NoAccount
+came_of deed NoAccount verdict = came_is.Refused word_is.NoAccount
 came_of deed _ verdict = came_by deed verdict
 
 abbrev pub came_told : Deed → Result Answered StoreFault → Came
 came_told deed (Ok it) = came_of deed it.reply it.verdict
-came_told deed (Err fault) = came.Failed
+came_told deed (Err fault) = came_is.Failed

@@ -14,7 +14,7 @@ use Rattle.page_overview.specs.Pages.{IsDesk}
 use Rattle.page_overview.specs.declared.overview.Overview.{Overview}
 use Rattle.page_pages.specs.DeskTolds.{told_page}
 use Rattle.page_pages.specs.declared.desk_script.TheConstants.{DESK_SCRIPT}
-use Rattle.page_pages.specs.declared.desk_told.Came.TheVariants as came
+use Rattle.page_pages.specs.declared.desk_told.Came.TheVariants as came_is
 use Rattle.page_pages.specs.declared.desk_told.Deed.{Deed}
 use Rattle.page_pages.specs.declared.desk_told.LineTold.{LineTold}
 use Rattle.page_pages.specs.declared.desk_told.Onward.TheVariants.{Accounts}
@@ -77,7 +77,7 @@ ShowsAnOverview _ closes response = ⊥
 
 -- the form spells no line of an operator that asks for an event
 abbrev pub TellsNoLine : Result Asked Refusal → (request : Request (List ℕ)) → Response → Type 0
-TellsNoLine (Ok LineForm) request response = (page : LineTold) × (page.came ≡ came.NoLine)
+TellsNoLine (Ok LineForm) request response = (page : LineTold) × (page.came ≡ came_is.NoLine)
     × (page.line.now ≡ line_of (body_of request))
     × (IsTold page (has_long_body request) response ⊎ IsLost response)
 TellsNoLine _ request response = ⊥
@@ -130,7 +130,7 @@ module _ {S : Type 0} (store : Ghosts S) where
     pub page : LineTold
     pub of_line : page.line.now ≡ line_of (body_of request)
     pub by : page.operator ≡ operator
-    pub came : page.came ≡ came.NoLine
+    pub came : page.came ≡ came_is.NoLine
     pub onward : page.onward ≡ Accounts
     pub tells : IsTold page (has_long_body request) response ⊎ IsLost response
     pub same : new ≡ old

@@ -1,9 +1,9 @@
 -- Rule: What a request at the desk asks for, or the first refusal that applies (all this project's own).
 -- They come in the order of the pages: where the path takes the method, a query that is none of its path
--- (400); a form of another site (403), a path of nothing (404), another method (405), a body that is no
--- form (415).
-use Rattle.std.specs.Prelude.{ℕ, Bool, List, Option, Some, None, Result, Ok, Err, bytes_eq, codes, if◌then◌else◌, option_map}
-use Rattle.http.specs.Request.{head_of}
+-- (400); a form of another site (403), a path of nothing (404), another method (405), a form of over 4096
+-- bytes (400), a body that is no form (415).
+use Rattle.std.specs.Prelude.{ℕ, Bool, List, Option, Some, None, Result, Ok, Err, bytes_eq, codes, if◌then◌else◌, length, nat_lt}
+use Rattle.http.specs.Request.{body_of, head_of}
 use Rattle.http.specs.declared.request.Request.{Request}
 use Rattle.http_uri.specs.Uri.{uri_path}
 use Rattle.input_http.specs.Origins.{is_foreign}
@@ -14,9 +14,15 @@ use Rattle.serve_web.specs.Queries.{statement_asked}
 use Rattle.serve_web.specs.Requests.{form_refusal, foreign_or, is_read, query_of}
 use Rattle.serve_desk.specs.Places.{listed_in, place_of}
 use Rattle.serve_desk.specs.declared.asked.Asked.{Asked}
+use Rattle.serve_desk.specs.declared.asked.TheConstants.{MOST_FORM}
+use Rattle.serve_web.specs.declared.asked.Asked.{Asked as PageAsked}
 use Rattle.serve_desk.specs.declared.asked.Asked.TheVariants as asked_is
 use Rattle.serve_desk.specs.declared.place.Place.{Place}
 use Rattle.serve_desk.specs.declared.place.Place.TheVariants.{Room, Devices, Style, Script, DeskScript, Line, Account, Statement, Table}
+
+abbrev pub shown : Option PageAsked → Option Asked
+shown None = None
+shown (Some asks) = Some (asked_is.Statement asks)
 
 -- None where the query is none of the place
 abbrev pub wish : Request (List ℕ) → Place → Option Asked
@@ -28,9 +34,9 @@ wish request DeskScript = Some asked_is.DeskScript
 wish request Line = Some asked_is.Line
 wish request (Account account) = Some (asked_is.Account account)
 wish request (Statement account) =
-    option_map asked_is.Statement (statement_asked account Paper (query_of request))
+    shown (statement_asked account Paper (query_of request))
 wish request (Table account) =
-    option_map asked_is.Statement (statement_asked account Csv (query_of request))
+    shown (statement_asked account Csv (query_of request))
 
 abbrev pub takes : Place → (method : List ℕ) → Bool
 takes Line method = bytes_eq method (codes "POST")
@@ -40,9 +46,10 @@ abbrev pub other_method : Place → Refusal
 other_method Line = OnlyPost
 other_method _ = OnlyRead
 
--- a line comes as a form
+-- a line comes as a form, which is short
 abbrev pub body_refusal : Request (List ℕ) → Asked → Option Refusal
-body_refusal request asked_is.Line = form_refusal request
+body_refusal request asked_is.Line =
+    if nat_lt MOST_FORM (length (body_of request)) then Some BadRequest else form_refusal request
 body_refusal request _ = None
 
 abbrev pub unless : Option Refusal → Asked → Result Asked Refusal

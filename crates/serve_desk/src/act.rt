@@ -1,6 +1,6 @@
 //! What a line of the desk does and came to, as its page tells it.
 ghost use Rattle.std.specs.Prelude.{◌≡◌};
-ghost use Rattle.serve_desk.specs.Acts.{came_of, came_told, deed_of, onward_of};
+ghost use Rattle.serve_desk.specs.Acts.{came_of, came_told, deed_of, onward_of, owner_deed};
 
 use account_machine::{Answered, Reply, Verdict};
 use account_rules::Word;
@@ -24,7 +24,9 @@ pub(crate) fn deed_of(action: &Action) -> Option<Deed>
 }
 
 /// Gives what an operator does in the place of an owner.
-fn owner_deed(act: OwnerAct) -> Deed {
+fn owner_deed(act: OwnerAct) -> Deed
+    ensures { result ≡ owner_deed act }
+{
     match act {
         OwnerAct::Cancel => Deed::Cancel,
         OwnerAct::Hold => Deed::Hold,

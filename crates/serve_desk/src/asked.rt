@@ -1,6 +1,6 @@
 //! Reads what a request at the desk asks for, by its path, method, query and body.
 ghost use Rattle.std.specs.Prelude.{◌≡◌};
-ghost use Rattle.serve_desk.specs.Requests.{asked, asked_at, body_refusal, foreign_or, judged, other_method, takes, wish};
+ghost use Rattle.serve_desk.specs.Requests.{asked, asked_at, body_refusal, foreign_or, judged, other_method, shown, takes, wish};
 
 use crate::place::{Listed, Place, listed_in, place_of};
 use account_rules::Name;
@@ -122,18 +122,24 @@ fn wish(request: &Request<Bytes>, place: &Place) -> Option<Asked>
 }
 
 /// A statement, if one is asked for.
-fn shown(asked: Option<PageAsked>) -> Option<Asked> {
+fn shown(asked: Option<PageAsked>) -> Option<Asked>
+    ensures { result ≡ shown asked }
+{
     match asked {
         Some(asked) => Some(Asked::Statement(asked)),
         None => None,
     }
 }
 
-/// Gives the refusal of the body: a line comes as a form.
+/// The most bytes of a form that spells a line.
+const MOST_FORM: usize = 4_096;
+
+/// Gives the refusal of the body: a line comes as a form, which is short.
 fn body_refusal(request: &Request<Bytes>, asked: &Asked) -> Option<Refusal>
     ensures { result ≡ body_refusal request.now asked.now }
 {
     match asked {
+        Asked::Line if request.body().len() > MOST_FORM => Some(Refusal::BadRequest),
         Asked::Line => form_refusal(request),
         _ => None,
     }

@@ -5,8 +5,9 @@ ghost use Rattle.serve_peers.specs.Journals.{moment_of, shares_of};
 ghost use Rattle.serve_peers.specs.Requests.{has_long_body};
 ghost use Rattle.serve_web.specs.Answers.{Shows};
 ghost use Rattle.serve_web.specs.Responses.{IsRefusal};
-ghost use Rattle.serve_desk.specs.Answers.{Answers, AnswersAsked, AnswersDesk, AsksLine, ShowsRoom, rooms_of};
+ghost use Rattle.serve_desk.specs.Answers.{Answers, AnswersAsked, AnswersDesk, Applies, AsksLine, Gives, ShowsRoom, rooms_of};
 ghost use Rattle.serve_desk.specs.Questions.{question_of};
+ghost use Rattle.serve_desk.specs.Requests.{asked};
 ghost use Rattle.serve_desk.specs.ProofDesk.{desk_continues};
 
 use crate::act::{came_told, deed_of, onward_of};

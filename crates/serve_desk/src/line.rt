@@ -16,12 +16,12 @@ pub(crate) fn line_of(alloc: Global, form: &[u8]) -> Result<Vec<u8>, AllocError>
     ensures { IfOk result (λ line. line.items ≡ line_of form.now) }
 {
     let mut line = Vec::new(alloc);
-    let mut is_first = true;
-    for field in form.split(|byte| *byte == b'&') {
-        if !is_first {
-            line.push(b' ')?;
-        }
-        is_first = false;
+    let mut fields = form.split(|byte| *byte == b'&');
+    if let Some(first) = fields.next() {
+        line.extend_from_slice(value_of(first))?;
+    }
+    for field in fields {
+        line.push(b' ')?;
         line.extend_from_slice(value_of(field))?;
     }
     Ok(line)

@@ -1,6 +1,7 @@
 //! Who asks, as the proxy says it.
-ghost use Rattle.std.specs.Prelude.{◌≡◌, option_map};
-ghost use Rattle.serve_desk.specs.Operators.{name_in, operator_of};
+ghost use Rattle.std.specs.Prelude.{◌≡◌};
+ghost use Rattle.serve_desk.specs.Operators.{operator_of};
+ghost use Rattle.serve_web.specs.Queries.{name_said};
 
 use account_rules::Name;
 use bytes::Bytes;
@@ -9,7 +10,7 @@ use http::{HeaderValue, Request};
 /// The operator who asks: the name in the request's one field X-Operator. `None` where there is no
 /// such field, or another one too, or it has no name.
 pub(crate) fn operator_of(request: &Request<Bytes>) -> Option<Name>
-    ensures { option_map (λ name. name.now) result ≡ operator_of request.now }
+    ensures { result ≡ operator_of request.now }
 {
     let values = request.headers().get_all("x-operator");
     let mut values = values.iter();
@@ -21,6 +22,8 @@ pub(crate) fn operator_of(request: &Request<Bytes>) -> Option<Name>
 }
 
 /// The name that a field has.
-fn name_in(value: &HeaderValue) -> Option<Name> {
+fn name_in(value: &HeaderValue) -> Option<Name>
+    ensures { result ≡ name_said value.now.bytes }
+{
     Name::read(value.as_bytes())
 }
