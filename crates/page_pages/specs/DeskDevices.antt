@@ -6,7 +6,15 @@ use Rattle.page_pages.specs.DeskForms.{desk_links, device_form}
 use Rattle.page_pages.specs.Devices.{on_sign, on_word}
 use Rattle.page_pages.specs.Frames.{card, document, foot, remark, top}
 use Rattle.page_pages.specs.declared.markup.TheConstants.{DESK_SCRIPTS, END_OF_CARD, END_OF_PAGE, END_OF_TABLE, LINE_FORM, RATE_FIELD}
-use Rattle.page_pages.specs.declared.texts.TheConstants.{DESK, DEVICES, NO_KNOWN_DEVICES, TURN_OFF, TURN_ON, ACTS, DEVICE, SET, SET_RATE, STATE, UNITS_A_PAGE}
+use Rattle.page_pages.specs.declared.texts.TheConstants.{ALL_DEVICES, DESK, DEVICES, NO_KNOWN_DEVICES, TURN_OFF, TURN_ON, ACTS, DEVICE, SET, SET_RATE, STATE, UNITS_A_PAGE}
+
+-- the heading of the page
+unfoldable pub devices_title : List Part
+devices_title =
+    Mark (codes "<div class=\"title\"><h1>")
+    ∷ Mark DEVICES.now
+    ∷ Mark (codes "</h1></div>\n")
+    ∷ []
 
 -- the heads of the columns
 unfoldable pub desk_columns : List Part
@@ -108,7 +116,7 @@ table_of_devices devices =
 
 unfoldable pub devices_table : List Device → List ℕ
 devices_table devices =
-    html (card (codes "devices") DEVICES.now) ++ (table_of_devices devices ++ END_OF_CARD.now)
+    html (card (codes "devices") ALL_DEVICES.now) ++ (table_of_devices devices ++ END_OF_CARD.now)
 
 unfoldable pub devices_page : List Device → List ℕ
 devices_page devices =
@@ -116,4 +124,5 @@ devices_page devices =
     ++ (DESK_SCRIPTS.now
     ++ (html (top DESK.now)
     ++ (html desk_links
-    ++ (devices_table devices ++ (html device_form ++ (html foot ++ END_OF_PAGE.now))))))
+    ++ (html devices_title
+    ++ (devices_table devices ++ (html device_form ++ (html foot ++ END_OF_PAGE.now)))))))

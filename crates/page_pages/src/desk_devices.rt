@@ -2,7 +2,7 @@
 //! page costs there.
 
 ghost use Rattle.std.specs.Prelude.{◌≡◌, ◌++◌, OnOk, flat_map};
-ghost use Rattle.page_pages.specs.DeskDevices.{desk_columns, desk_device, desk_row, devices_page, devices_table, other_label, other_state, rate_form, switch_form, table_of_devices};
+ghost use Rattle.page_pages.specs.DeskDevices.{desk_columns, desk_device, desk_row, devices_page, devices_table, devices_title, other_label, other_state, rate_form, switch_form, table_of_devices};
 ghost use Rattle.page_pages.specs.DeskForms.{desk_links, device_form};
 ghost use Rattle.page_pages.specs.Devices.{on_sign, on_word};
 ghost use Rattle.page_pages.specs.Frames.{card, document, foot, remark, top};
@@ -13,8 +13,8 @@ use crate::devices::{on_sign, on_word};
 use crate::frame::{put_card, put_document, put_foot, put_remark, put_top};
 use crate::markup::{DESK_SCRIPTS, END_OF_CARD, END_OF_PAGE, END_OF_TABLE, LINE_FORM, RATE_FIELD};
 use crate::texts::{
-    ACTS, DESK, DEVICE, DEVICES, NO_KNOWN_DEVICES, SET, SET_RATE, STATE, TURN_OFF, TURN_ON,
-    UNITS_A_PAGE,
+    ACTS, ALL_DEVICES, DESK, DEVICE, DEVICES, NO_KNOWN_DEVICES, SET, SET_RATE, STATE, TURN_OFF,
+    TURN_ON, UNITS_A_PAGE,
 };
 use account_rules::Device;
 use page_markup::{Piece, put_all};
@@ -29,6 +29,7 @@ pub fn put_devices_page(out: &mut Vec<u8>, devices: &[Device]) -> Result<(), All
     out.extend_from_slice(DESK_SCRIPTS.as_bytes())?;
     put_top(out, DESK)?;
     put_desk_links(out)?;
+    put_devices_title(out)?;
     put_devices_card(out, devices)?;
     put_device_form(out)?;
     put_foot(out)?;
@@ -40,7 +41,7 @@ pub fn put_devices_page(out: &mut Vec<u8>, devices: &[Device]) -> Result<(), All
 fn put_devices_card(out: &mut Vec<u8>, devices: &[Device]) -> Result<(), AllocError>
     ensures { OnOk result (out.new.items ≡ out.old.items ++ devices_table devices.now) }
 {
-    put_card(out, "devices", DEVICES)?;
+    put_card(out, "devices", ALL_DEVICES)?;
     put_table_of_devices(out, devices)?;
     out.extend_from_slice(END_OF_CARD.as_bytes())
 }
@@ -105,6 +106,20 @@ fn other_label(on: bool) -> &'static str
     ensures { result.now ≡ other_label on }
 {
     if on { TURN_OFF } else { TURN_ON }
+}
+
+/// Appends the heading of the page.
+fn put_devices_title(out: &mut Vec<u8>) -> Result<(), AllocError>
+    ensures { OnOk result (out.new.items ≡ out.old.items ++ html devices_title) }
+{
+    put_all(
+        out,
+        &[
+            Piece::Mark("<div class=\"title\"><h1>"),
+            Piece::Mark(DEVICES),
+            Piece::Mark("</h1></div>\n"),
+        ],
+    )
 }
 
 /// Appends the start of the table of devices, with the heads of its columns.

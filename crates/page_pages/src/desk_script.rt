@@ -7,7 +7,6 @@ pub const DESK_SCRIPT: &str =
 'use strict';
 {
 const MOST_ROWS = 100000, COLUMNS = ['account', 'month', 'units'];
-const file = document.getElementById('file-form');
 
 // Sends the values of a form, and gives whether it was done, and what was said. What is no page of the desk throws.
 async function send(values) {
@@ -29,10 +28,11 @@ let isSending = false;
 // Before the script of all pages, which knows the forms of an owner.
 document.addEventListener('submit', async (event) => {
   const form = event.target;
-  if (!form.matches('[data-line]')) return;
+  if (!form.matches('[data-line], #file-form')) return;
   event.stopImmediatePropagation();
   event.preventDefault();
   if (isSending) return;
+  if (form.id === 'file-form') { grantFile(form); return; }
   isSending = true;
   try {
     const told = await send(new URLSearchParams(new FormData(form, event.submitter)));
@@ -86,13 +86,14 @@ function tableFor(data) {
   }];
 }
 
-async function grantAll(input, data, say) {
-  const given = input.files[0];
+// Sends each record, one behind the other, and tells what it came to.
+async function grantAll(form, say) {
+  const data = form.dataset, given = form.querySelector('input').files[0];
   const records = given ? recordsOf(await given.text()) : [];
   if (records.length === 0 || records.length > MOST_ROWS) { say(data.empty); return; }
-  file.parentElement.querySelector('table')?.remove();
+  form.parentElement.querySelector('table')?.remove();
   const [table, add] = tableFor(data);
-  file.after(table);
+  form.after(table);
   let done = 0, at = 0;
   for (const [number, fields] of records) {
     at += 1;
@@ -110,15 +111,21 @@ async function grantAll(input, data, say) {
   say(data.done + ' ' + done + ' / ' + records.length);
 }
 
-if (file) {
-  const button = file.querySelector('button');
-  button.disabled = false;
-  file.addEventListener('submit', async (event) => {
-    event.preventDefault();
-    button.disabled = true;
-    await grantAll(document.getElementById('rows'), file.dataset, (text) => { document.getElementById('sent').textContent = text; });
-    button.disabled = false;
-  });
+// The form may have come anew, with the page.
+function enable() {
+  const button = document.querySelector('#file-form button');
+  if (button) button.disabled = isSending;
 }
+
+async function grantFile(form) {
+  isSending = true;
+  enable();
+  await grantAll(form, (text) => { form.querySelector('#sent').textContent = text; });
+  isSending = false;
+  enable();
+}
+
+new MutationObserver(enable).observe(main, { childList: true, subtree: true });
+enable();
 }
 ";

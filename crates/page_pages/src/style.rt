@@ -138,6 +138,7 @@ input[type=checkbox]{width:1.25rem;min-height:1.25rem;height:1.25rem;margin:0 .5
 .fields~p,noscript p{margin-top:1rem}
 .find{display:flex;gap:.5rem;align-items:end}
 .find button{min-height:2.75rem}
+.pair .fields{grid-template-columns:repeat(2,minmax(0,1fr))}
 .acts>div{display:flex;flex-wrap:wrap;gap:.5rem 1rem;justify-content:flex-end}
 .acts .few{width:5rem;min-height:2.5rem}
 .acts>div form{flex-wrap:nowrap}
@@ -180,7 +181,7 @@ main{gap:1rem;padding-block:1.5rem}
 .card,.note{padding:1rem}
 .pair{gap:1rem}
 .tiles{gap:1rem}
-.balance,.fields{grid-template-columns:minmax(0,1fr)}
+.balance,.fields,.pair .fields{grid-template-columns:minmax(0,1fr)}
 button{min-height:2.75rem}
 .acts form>*{flex:1}
 .fields button,.find{width:100%}

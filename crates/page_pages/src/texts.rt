@@ -504,6 +504,8 @@ pub(crate) const ROWS_SENT: &str = "Being granted:";
 
 pub(crate) const ADD_DEVICE: &str = "Add a device";
 
+pub(crate) const ALL_DEVICES: &str = "All devices";
+
 pub(crate) const NO_KNOWN_DEVICES: &str = "No device is known yet.";
 
 pub(crate) const TURN_ON: &str = "Turn on";
