@@ -74,7 +74,8 @@ pub record Lists (it : Overview) (gathers : Bool) (front : Option (List ℕ)) (d
   pub behind_is : room.behind ≡ behind
 
 -- the days of the month, and the first accounts of those that are asked for
-abbrev pub ListsFound : (it : Overview) (gathers : Bool) (front behind : Option (List ℕ)) → Room → Type 0
+abbrev pub ListsFound : (it : Overview) (gathers : Bool) (front behind : Option (List ℕ))
+    → Room → Type 0
 ListsFound it gathers front behind room = Lists it gathers front (day_lines it)
     (take MOST_LISTED (found front behind it.accounts.items))
     (next_behind (found front behind it.accounts.items)) room

@@ -97,6 +97,7 @@ module _ {S : Type 0} (store : Ghosts S) (first last : Held S) where
     pub answered : AnswersDeskNow shares calls long places journal
 
   -- what came are these requests, and what goes out are their responses, in order
-  pub record HasAnsweredDesk (peer : HttpPeer) (places : List ℕ) (journal : List Told) : Type 0 where
+  pub record HasAnsweredDesk (peer : HttpPeer) (places : List ℕ) (journal : List Told)
+      : Type 0 where
     pub served : ∥ http.IsServed (config_of (connection_of peer)) (history (connection_of peer)) ∥₁
     pub answered : AnswersDeskCalls (calls_of peer) 0 places journal
