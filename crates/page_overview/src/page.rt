@@ -2,6 +2,7 @@
 
 ghost use Rattle.std.specs.Prelude.{◌≡◌, ◌++◌, ◌≤◌, ℕ, length, List, IfOk, OnOk};
 ghost use Rattle.page_overview.specs.Pages.{begins_so, comes_behind, days_in, found, is_listed, next_behind, numbered, IsDesk, IsPage, Lists};
+ghost use Rattle.page_pages.specs.DeskRooms.{desk_page};
 ghost use Rattle.page_pages.specs.Rooms.{room_page};
 ghost use Rattle.page_pages.specs.declared.room.Room.{Room as RoomRecord};
 
@@ -59,8 +60,14 @@ impl Overview {
         let mut accounts = find(alloc, self.accounts.as_slice(), &front, &behind)?;
         let next = next_behind(accounts.as_slice());
         accounts.truncate(MOST_LISTED);
-        let room = self.room(gathers, front, days.as_slice(), accounts.as_slice(), next);
-        put_desk_page(out, &room)
+        self.put_desk_listed(
+            out,
+            gathers,
+            front,
+            days.as_slice(),
+            accounts.as_slice(),
+            next,
+        )
     }
 
     /// Appends the page with these days and these accounts. `behind` is the last of them, if more
@@ -80,6 +87,24 @@ impl Overview {
     {
         let room = self.room(gathers, front, days, accounts, behind);
         put_room_page(out, &room)
+    }
+
+    /// Appends the desk's first page with these days and these accounts, as `put_listed`.
+    fn put_desk_listed(
+        &self,
+        out: &mut Vec<u8>,
+        gathers: bool,
+        front: Option<Name>,
+        days: &[DayLine],
+        accounts: &[AccountLine],
+        behind: Option<Name>,
+    ) -> Result<(), AllocError>
+        ensures { OnOk result ((room : RoomRecord)
+            × Lists self.now gathers front days.now accounts.now behind room
+            × (out.new.items ≡ out.old.items ++ desk_page room)) }
+    {
+        let room = self.room(gathers, front, days, accounts, behind);
+        put_desk_page(out, &room)
     }
 
     /// What the page shows, with these days and these accounts.
