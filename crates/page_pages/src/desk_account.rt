@@ -262,7 +262,8 @@ fn put_jobs_columns(out: &mut Vec<u8>) -> Result<(), AllocError>
     )
 }
 
-/// Appends which job of which account the buttons before are for, and the end of its form and its row.
+/// Appends which job of which account the buttons before are for, and the end of its form and its
+/// row.
 fn put_job_end(out: &mut Vec<u8>, account: &[u8], number: u32) -> Result<(), AllocError>
     ensures { OnOk result (out.new.items ≡ out.old.items ++ html (job_end account.now number)) }
 {

@@ -1,5 +1,5 @@
-//! The desk's page of devices: how each stands, with the forms that turn it on or off and set what a
-//! page costs there.
+//! The desk's page of devices: how each stands, with the forms that turn it on or off and set what
+//! a page costs there.
 
 ghost use Rattle.std.specs.Prelude.{◌≡◌, ◌++◌, OnOk, flat_map};
 ghost use Rattle.page_pages.specs.DeskDevices.{desk_columns, desk_device, desk_row, devices_page, devices_table, devices_title, other_label, other_state, rate_form, switch_form, table_of_devices};
@@ -150,7 +150,8 @@ fn put_desk_device<'a>(
     state: &'a str,
     rate: u32,
 ) -> Result<(), AllocError>
-    ensures { OnOk result (out.new.items ≡ out.old.items ++ html (desk_device name.now symbol.now state.now rate)) }
+    ensures { OnOk result
+        (out.new.items ≡ out.old.items ++ html (desk_device name.now symbol.now state.now rate)) }
 {
     put_all(
         out,
@@ -209,7 +210,8 @@ fn put_switch_form<'a>(
     turned: &'a str,
     label: &'a str,
 ) -> Result<(), AllocError>
-    ensures { OnOk result (out.new.items ≡ out.old.items ++ html (switch_form name.now turned.now label.now)) }
+    ensures { OnOk result
+        (out.new.items ≡ out.old.items ++ html (switch_form name.now turned.now label.now)) }
 {
     put_all(
         out,

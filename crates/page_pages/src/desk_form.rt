@@ -41,7 +41,8 @@ pub(crate) fn put_open_form(out: &mut Vec<u8>) -> Result<(), AllocError>
     )
 }
 
-/// Appends the card whose form grants what a file says, by the script, with the texts for what each record comes to.
+/// Appends the card whose form grants what a file says, by the script, with the texts for what each
+/// record comes to.
 pub(crate) fn put_file_form(out: &mut Vec<u8>) -> Result<(), AllocError>
     ensures { OnOk result (out.new.items ≡ out.old.items ++ html file_form) }
 {
@@ -131,7 +132,8 @@ pub(crate) fn put_give_back_form(
     account: &[u8],
     month: u32,
 ) -> Result<(), AllocError>
-    ensures { OnOk result (out.new.items ≡ out.old.items ++ html (give_back_form account.now month)) }
+    ensures { OnOk result
+        (out.new.items ≡ out.old.items ++ html (give_back_form account.now month)) }
 {
     put_all(
         out,

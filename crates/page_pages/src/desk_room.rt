@@ -1,5 +1,5 @@
-//! The desk's first page: what the print room's page lists, and the forms that open accounts and grant
-//! by a file.
+//! The desk's first page: what the print room's page lists, and the forms that open accounts and
+//! grant by a file.
 
 ghost use Rattle.std.specs.Prelude.{◌≡◌, ◌++◌, OnOk};
 ghost use Rattle.page_pages.specs.Accounts.{accounts_card};

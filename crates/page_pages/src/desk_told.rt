@@ -130,7 +130,8 @@ fn put_end_of(out: &mut Vec<u8>, onward: Onward) -> Result<(), AllocError>
 
 /// Appends the start of the card that tells what a line came to.
 fn put_told_start<'a>(out: &mut Vec<u8>, look: &'a str, heading: &'a str) -> Result<(), AllocError>
-    ensures { OnOk result (out.new.items ≡ out.old.items ++ html (told_start look.now heading.now)) }
+    ensures { OnOk result
+        (out.new.items ≡ out.old.items ++ html (told_start look.now heading.now)) }
 {
     put_all(
         out,
@@ -150,7 +151,8 @@ fn put_told_line<'a>(
     line: &'a [u8],
     operator: &'a [u8],
 ) -> Result<(), AllocError>
-    ensures { OnOk result (out.new.items ≡ out.old.items ++ html (told_line line.now operator.now)) }
+    ensures { OnOk result
+        (out.new.items ≡ out.old.items ++ html (told_line line.now operator.now)) }
 {
     put_all(
         out,
@@ -175,7 +177,8 @@ fn put_told_end<'a>(
     label: &'a str,
     of: &'a [u8],
 ) -> Result<(), AllocError>
-    ensures { OnOk result (out.new.items ≡ out.old.items ++ html (told_end place.now label.now of.now)) }
+    ensures { OnOk result
+        (out.new.items ≡ out.old.items ++ html (told_end place.now label.now of.now)) }
 {
     put_all(
         out,
