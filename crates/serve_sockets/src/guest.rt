@@ -329,6 +329,7 @@ impl Guest {
         let has_to_send = match &self.peer {
             Peer::Http(peer) => peer.has_to_send(),
             Peer::Pages(peer) => peer.has_to_send(),
+            Peer::Desk(peer) => peer.has_to_send(),
             Peer::Lines(peer) => peer.has_to_send(),
             Peer::Last(peer) => peer.bytes_held() == 0,
         };
