@@ -16,11 +16,17 @@ async function send(values) {
   return { isDone: reply.ok && card.matches('.good'), isRefusal: !reply.ok, texts };
 }
 
-// The page as it is now, in the place of what is here.
+// By which month units are given back next.
+const monthBack = (page) => page.querySelector('[aria-labelledby=give-back] input[name=month]');
+
+// The page as it is now, in the place of what is here. A form in which somebody types stays, but for that month.
 async function showAnew() {
   const reply = await ask(location.pathname + location.search, {});
   const page = read(await reply.text());
-  if (reply.ok && page.getElementById('main')) goOn(page);
+  if (!reply.ok || !page.getElementById('main')) return;
+  const month = monthBack(page)?.value;
+  goOn(page);
+  if (month && monthBack(document)) monthBack(document).value = month;
 }
 
 let isSending = false;
