@@ -8,8 +8,8 @@ use Rattle.page_pages.specs.declared.texts.TheConstants.{ACCOUNT, ADD_DEVICE, CA
 -- opens an account
 unfoldable pub open_form : List Part
 open_form =
-    Mark (codes "<section class=\"card screen\" aria-labelledby=\"open\">\n<header><h2 ")
-    ∷ Mark (codes "id=\"open\">")
+    Mark (codes "<section class=\"card screen\" ")
+    ∷ Mark (codes "aria-labelledby=\"open-account\">\n<header><h2 id=\"open-account\">")
     ∷ Mark OPEN_ACCOUNT.now
     ∷ Mark (codes "</h2></header>\n")
     ∷ Mark LINE_FORM.now

@@ -22,8 +22,8 @@ pub(crate) fn put_open_form(out: &mut Vec<u8>) -> Result<(), AllocError>
     put_all(
         out,
         &[
-            Piece::Mark("<section class=\"card screen\" aria-labelledby=\"open\">\n<header><h2 "),
-            Piece::Mark("id=\"open\">"),
+            Piece::Mark("<section class=\"card screen\" "),
+            Piece::Mark("aria-labelledby=\"open-account\">\n<header><h2 id=\"open-account\">"),
             Piece::Mark(OPEN_ACCOUNT),
             Piece::Mark("</h2></header>\n"),
             Piece::Mark(LINE_FORM),
