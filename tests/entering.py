@@ -46,6 +46,7 @@ STYLE = b'GET /style.css HTTP/1.1\r\nHost: localhost\r\n\r\n'
 DOORS = (
     ('clients', 768, validate(), valid()),
     ('pages', 256, STYLE, b'HTTP/1.1 200 OK\r\n'),
+    ('desk', 64, b'GET /style.css HTTP/1.1\r\nHost: localhost\r\nX-Operator: olga\r\n\r\n', b'HTTP/1.1 200 OK\r\n'),
     ('stations', 192, b'release d1 alice 1 - -\nopen bob\n', b'no-job\nbad-line\n'),
     ('station', 16, b'release d1 alice 1 - -\nopen bob\n', b'no-job\nbad-line\n'),
     ('operators', 64, b'ping\n', b'ok\n'),

@@ -5,6 +5,7 @@ An empty line stands between two connections of a row. How one ends names its do
 - `= answered`: that of clients
 - `= shown`: that of browsers; `= shown with FILE` where the file's bytes come behind, and `= shown first` where what goes out
   begins so
+- `= at the desk`: that of operators' browsers, likewise with a file or first
 - `= told an operator`, `= told a station`: those of lines; `= told the station of d1 and d3`: the bound door of these devices
 
 `= the pages need a PIN` stands by itself: from there on a run of `serve` on the same file has the pages take no file without one.
@@ -24,7 +25,7 @@ NEEDS_PIN = '= the pages need a PIN\n'
 
 # The doors by the end of a connection.
 OF_LINES = {'= told an operator': 'operators', '= told a station': 'stations', '= told the station of d1 and d3': 'station'}
-OPTIONS = ['--pages', '0', '--host', 'printroom.example,other.example:8443', '--station', 'd1,d3=0']
+OPTIONS = ['--pages', '0', '--desk', '0', '--host', 'printroom.example,other.example:8443', '--station', 'd1,d3=0']
 WAYS = {'whole': False, 'cut': True}
 
 # A read of fewer bytes has brought all that was there, the program takes it: what comes behind it, the system tells. So the reads
@@ -41,17 +42,17 @@ class Connection:
         if end in OF_LINES:
             self.door = OF_LINES[end]
             self.sent, self.due = lines_behind('>', text), lines_behind('<', text)
-        elif end == '= answered' or end.startswith('= shown'):
-            self.door = 'clients' if end == '= answered' else 'pages'
+        elif end == '= answered' or end.startswith(('= shown', '= at the desk')):
+            self.door = 'clients' if end == '= answered' else 'pages' if end.startswith('= shown') else 'desk'
             exchange = Exchange(text)
             self.sent, self.due = exchange.sent(), exchange.due() + named_file(end)
         else:
             raise Unread(f'a connection ends with {end}')
-        self.is_first = end == '= shown first'
+        self.is_first = end.endswith(' first')
 
     def piece(self):
         """How many bytes are sent and read at once, where a row is cut."""
-        if self.door == 'pages':
+        if self.door in ('pages', 'desk'):
             return None
         if self.door != 'clients':
             return 1
@@ -73,7 +74,7 @@ def lines_behind(mark, text):
 
 def named_file(end):
     """The bytes of the file that an end names, if it does."""
-    _, is_named, name = end.partition('= shown with ')
+    _, is_named, name = end.partition(' with ')
     if not is_named:
         return b''
     with open(f'{ROWS}/{name}', 'rb') as file:

@@ -9,17 +9,20 @@ from station_room import free_port, listens, wait_until, want, write
 NAMES = f'{TOP}/packaging/names/ipp-room-names'
 PASSWORD = 'secret'
 SIGN_ON = 'global\n    setenv SIGN_ON openid\n\n'
+DESK = 'global\n    setenv DESK yes\n\n'
 
 
 class Proxy:
     """haproxy, up to the end of the block, before these ports of clients and pages. `users` sign in by one password, `operators` too.
 
     `port` is that of pages, `clients` that of clients. With `judge`, the socket of a judge, names and passwords are a directory's; with
-    `sign_on`, a socket's path, the pages are there, for who has signed people in. `queue` is the socket of a run of ipp-room-queue.
+    `sign_on`, a socket's path, the pages are there, for who has signed people in. `queue` is the socket of a run of ipp-room-queue,
+    `desk` the port of the desk; to that leads the port of this name.
     """
 
-    def __init__(self, folder, clients, pages, users, operators=(), table='rule same\n', judge=None, queue='/run/ipp-room-queue/pages', sign_on=None):
-        self.folder, self.table, self.port, self.clients, self.stations = folder, f'{folder}/names', free_port(), free_port(), free_port()
+    def __init__(self, folder, clients, pages, users, operators=(), table='rule same\n', judge=None, queue='/run/ipp-room-queue/pages', sign_on=None,
+                 desk=None):
+        self.folder, self.table, self.port, self.clients, self.stations, self.desk = folder, f'{folder}/names', *(free_port() for _ in range(4))
         words = ['openssl', 'req', '-x509', '-newkey', 'rsa:2048', '-nodes', '-keyout', f'{folder}/room.pem.key', '-out', f'{folder}/room.pem',
                  '-subj', '/CN=printroom.example']
         subprocess.run(words, check=True, stderr=subprocess.DEVNULL)
@@ -29,12 +32,12 @@ class Proxy:
         for old, new in (('/usr/share/ipp-room/refusals', f'{folder}/refusals'), ('/etc/haproxy/room.pem', f'{folder}/room.pem'), ('/etc/haproxy/stations-ca.pem', f'{folder}/room.pem'),
                          ('/etc/haproxy/names.map', f'{folder}/names.map'), ('/etc/haproxy/others.map', f'{folder}/others.map'),
                          ('log /dev/log local0', 'log stdout format raw local0'), (':443 ', f':{self.port} '), (':631 ', f':{self.clients} '),
-                         (':6312 ', f':{self.stations} '), ('unix@/run/ipp-room/pages', f'127.0.0.1:{pages}'),
+                         (':6312 ', f':{self.stations} '), (':8443 ', f':{self.desk} '), ('unix@/run/ipp-room/desk', f'127.0.0.1:{desk or 1}'), ('unix@/run/ipp-room/pages', f'127.0.0.1:{pages}'),
                          ('unix@/run/ipp-room/clients', f'127.0.0.1:{clients}'), ('unix@/run/ipp-room-queue/pages', f'unix@{queue}'),
                          ('    user haproxy\n', ''), ('/run/ipp-room-sign-on/pages', sign_on or '/run/ipp-room-sign-on/pages')):
             want(old in text, f'{old} is not in it')
             text = text.replace(old, new)
-        write(f'{folder}/haproxy.cfg', (asking(judge) if judge else '') + (SIGN_ON if sign_on else '') + text + userlist(users, operators))
+        write(f'{folder}/haproxy.cfg', (asking(judge) if judge else '') + (SIGN_ON if sign_on else '') + (DESK if desk else '') + text + userlist(users, operators))
         self.put_table(table)
 
     def put_table(self, table):

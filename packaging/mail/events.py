@@ -6,7 +6,7 @@ from urllib.parse import unquote_to_bytes
 KINDS = ('printed', 'failed', 'corrected', 'canceled', 'refused', 'held', 'low', 'waiting')
 # The device by which ipp-room-desk takes units off.
 DESK = 'desk'
-LINE = re.compile(r'(?P<at>\d{1,12}) (?P<side>clients|stations|operators|front) (?P<rest>.*)')
+LINE = re.compile(r'(?P<at>\d{1,12}) (?P<side>clients|stations|operators|desk:[a-z][a-z0-9-]{0,31}|front) (?P<rest>.*)')
 ACCOUNT, NUMBER, COUNT = r'(?P<account>[a-z][a-z0-9-]{0,31})', r'(?P<job>\d{1,10})', r'-?\d{1,12}'
 SETTLED = re.compile(rf'(?P<device>\S+) settle {ACCOUNT} {NUMBER} {COUNT} (?P<how>done|failed) ok charged (?P<units>{COUNT}) left (?P<left>{COUNT})')
 STARTED = re.compile(rf'(?P<device>\S+) start {ACCOUNT} {NUMBER} documents {COUNT}')
@@ -56,8 +56,9 @@ def told_by(line: bytes, has_front: bool) -> Told:
         return of_front(at, rest)
     if side == 'stations':
         return of_station(at, rest)
-    granted = GRANTED.fullmatch(rest) if side == 'operators' else None
-    return Told([], granted=granted['account']) if granted else of_request(at, rest, side == 'operators', has_front)
+    by_operator = side == 'operators' or side.startswith('desk:')
+    granted = GRANTED.fullmatch(rest) if by_operator else None
+    return Told([], granted=granted['account']) if granted else of_request(at, rest, by_operator, has_front)
 
 
 def of_front(at: int, rest: str) -> Told:

@@ -7,6 +7,9 @@ use Rattle.account_laws.proofs.ToldLists.{length_changed, told_changed}
 use Rattle.account_rules.specs.Effects.{is_incomplete}
 use Rattle.account_rules.specs.declared.job.Job.{Job}
 use Rattle.page_markup.specs.Parts.{html}
+use Rattle.page_pages.specs.DeskAccounts.{account_end, account_forms, account_lists, account_start, desk_account_page, desk_acts, desk_cells, desk_content, desk_job, jobs_card, table_of_jobs}
+use Rattle.page_pages.specs.DeskGrants.{grants_card}
+use Rattle.page_pages.specs.declared.desk_account.DeskAccount.{DeskAccount}
 use Rattle.page_pages.specs.Ended.{device_or_none, ended_card, ended_columns, ended_counts, ended_job, ended_name, table_of_ended}
 use Rattle.page_pages.specs.Forms.{print_form}
 use Rattle.page_pages.specs.Owners.{content, lists, owner_document, owner_end, owner_page, owner_start, reload_if, terms_of}
@@ -108,6 +111,39 @@ module _ (owner : Owner) (waiting ended : List Job) where
   pub owner_hidden : owner_page (owner_with owner (map hidden waiting) (map hidden ended)) ≡ owner_page (owner_with owner waiting ended)
   unfolding owner_page
   owner_hidden = λ i. start_hidden i ++ (content_hidden i ++ (lists_hidden i ++ end_hidden i))
+
+-- ---- the page of the desk
+
+desk_job_hidden : (account : List ℕ) (job : Job) → desk_job account (hidden job) ≡ desk_job account job
+unfolding desk_job desk_cells
+desk_job_hidden account job = ap (λ (phase : Phase). desk_cells phase job ++ desk_acts account phase job.job) (phase_hidden job)
+
+jobs_table : (account : List ℕ) (jobs : List Job) → table_of_jobs account (map hidden jobs) ≡ table_of_jobs account jobs
+jobs_table account jobs = of_rows _ _ _ _ _ _ _ (length_changed hidden jobs) (told_changed hidden (desk_job account) (desk_job account) (desk_job_hidden account) jobs)
+
+jobs_hidden : (account : List ℕ) (jobs : List Job) → jobs_card account (map hidden jobs) ≡ jobs_card account jobs
+unfolding jobs_card
+jobs_hidden account jobs = within _ _ _ _ (jobs_table account jobs)
+
+-- with these jobs on it
+abbrev desk_with : DeskAccount → (waiting ended : List Job) → DeskAccount
+desk_with shown waiting ended = record shown { waiting = waiting; ended = ended }
+
+module _ (shown : DeskAccount) (waiting ended : List Job) where
+  desk_content_hidden : desk_content (desk_with shown (map hidden waiting) (map hidden ended)) ≡ desk_content (desk_with shown waiting ended)
+  unfolding desk_content
+  desk_content_hidden = refl
+
+  desk_lists_hidden : account_lists (desk_with shown (map hidden waiting) (map hidden ended)) ≡ account_lists (desk_with shown waiting ended)
+  unfolding account_lists
+  desk_lists_hidden =
+      let first = jobs_hidden shown.account waiting in
+      let last = ended_card_hidden ended in
+      λ i. first i ++ (account_forms shown.account shown.month shown.grants ++ (grants_card shown.grants ++ last i))
+
+  pub desk_hidden : desk_account_page (desk_with shown (map hidden waiting) (map hidden ended)) ≡ desk_account_page (desk_with shown waiting ended)
+  unfolding desk_account_page
+  desk_hidden = λ i. account_start shown.account ++ (desk_content_hidden i ++ (desk_lists_hidden i ++ account_end))
 
 -- ---- a statement
 

@@ -8,7 +8,7 @@ use Rattle.percent_encoding.specs.Percent.{percent_encode}
 use Rattle.account_machine.specs.Steps.{and_then}
 use Rattle.account_machine.specs.declared.event.Reply.TheVariants as reply
 use Rattle.account_laws.proofs.HiddenAnswers.{found_hidden}
-use Rattle.account_laws.proofs.HiddenPages.{owner_hidden, statement_hidden}
+use Rattle.account_laws.proofs.HiddenPages.{desk_hidden, owner_hidden, statement_hidden}
 use Rattle.account_laws.proofs.HiddenPasswords.{hidden, secret}
 use Rattle.account_laws.proofs.HiddenRooms.{charged_hidden, hidden_room, reserved_hidden}
 use Rattle.account_laws.proofs.MappedValues.{filter_changed, values-with_each}
@@ -17,14 +17,14 @@ use Rattle.account_laws.proofs.ToldLists.{lines_changed}
 use Rattle.account_laws.specs.PasswordsInQuestions as law
 use Rattle.account_questions.specs.JobLines.{counts_text, escaped, job_text, password_text, place_text, times_text}
 use Rattle.account_questions.specs.Lists.{jobs_text}
-use Rattle.account_questions.specs.Pages.{most_shown, owner_of, statement_of}
+use Rattle.account_questions.specs.Pages.{desk_of, most_shown, owner_of, statement_of}
 use Rattle.account_questions.specs.Questions.{answer_about, answer_to}
 use Rattle.account_questions.specs.Quotas.{quota_text, statement_text}
 use Rattle.account_questions.specs.Stations.{handed_again, is_for, printed_by, said_or, waiting_at}
 use Rattle.account_questions.specs.declared.question.About.{About}
-use Rattle.account_questions.specs.declared.question.About.TheVariants.{Left, Statement, Jobs, Ended, Grants, Waiting, Again, OwnerPage, StatementPage}
+use Rattle.account_questions.specs.declared.question.About.TheVariants.{Left, Statement, Jobs, Ended, Grants, Waiting, Again, OwnerPage, StatementPage, DeskPage}
 use Rattle.account_questions.specs.declared.question.Question.{Question}
-use Rattle.account_questions.specs.declared.question.Question.TheVariants.{Ping, End, Devices, Accounts, Check, Account}
+use Rattle.account_questions.specs.declared.question.Question.TheVariants.{Ping, End, Devices, DevicesPage, Accounts, Check, Account}
 use Rattle.account_replies.specs.Stations.{known_device}
 use Rattle.account_rules.specs.Devices.{Devices as DeviceMap}
 use Rattle.account_rules.specs.Effects.{is_bound_elsewhere}
@@ -37,6 +37,7 @@ use Rattle.account_state.specs.Queues.{completed, first_jobs, is_later, not_comp
 use Rattle.account_state.specs.Rooms.{RoomValue}
 use Rattle.account_state.specs.Sums.{granted_to}
 use Rattle.account_state.specs.Summaries.{beyond_then, charged_then, is_held, is_in_month, is_pending, summary_of}
+use Rattle.page_pages.specs.DeskAccounts.{desk_account_page}
 use Rattle.page_pages.specs.Owners.{owner_page}
 use Rattle.page_pages.specs.Statements.{statement_page}
 
@@ -165,6 +166,10 @@ about_hidden account (StatementPage first last form drawn_up) room devices =
     let statement = statement_of account first last form drawn_up room in
     (λ i. reply.Line (statement_page (record statement { reserved = reserved_hidden room i; charged = charged_hidden room i; ended = completed_in room i })))
     ∙ ap reply.Line (statement_hidden statement statement.ended)
+about_hidden account (DeskPage month) room devices =
+    let shown = desk_of account month room in
+    (λ i. reply.Line (desk_account_page (record shown { reserved = reserved_hidden room i; charged = charged_hidden room i; waiting = not_completed_in room i; ended = first_in room most_shown i })))
+    ∙ ap reply.Line (desk_hidden shown shown.waiting shown.ended)
 
 -- ---- every question
 
@@ -177,6 +182,7 @@ by_rooms (Some a) (Some b) devices alike (Account account about) names =
 by_rooms (Some a) (Some b) devices alike Ping names = refl
 by_rooms (Some a) (Some b) devices alike End names = refl
 by_rooms (Some a) (Some b) devices alike Devices names = refl
+by_rooms (Some a) (Some b) devices alike DevicesPage names = refl
 by_rooms (Some a) (Some b) devices alike (Accounts behind) names = refl
 by_rooms (Some a) (Some b) devices alike (Check account) names = refl
 

@@ -8,12 +8,16 @@ use Rattle.account_laws.specs.LinesTold.{IsAnswered, if_opened}
 use Rattle.account_laws.specs.ListedJobs.{Numbered, latest_first, unfinished_jobs}
 use Rattle.account_laws.specs.StagesTold.{ended_told, started_told, state_told}
 use Rattle.account_laws.specs.StandsAsTold.{was_stopped}
-use Rattle.account_questions.specs.declared.question.About.TheVariants.{OwnerPage, StatementPage}
-use Rattle.account_questions.specs.declared.question.Question.TheVariants.{Account}
+use Rattle.account_questions.specs.declared.question.About.TheVariants.{DeskPage, OwnerPage, StatementPage}
+use Rattle.account_questions.specs.declared.question.Question.TheVariants.{Account, DevicesPage}
 use Rattle.account_state.specs.Grants.{grant_of}
 use Rattle.account_rules.specs.declared.device.Device.{Device}
 use Rattle.account_rules.specs.declared.job.Job.{Job}
+use Rattle.account_machine.specs.declared.event.Reply.TheVariants as reply
+use Rattle.page_pages.specs.DeskAccounts.{desk_account_page}
+use Rattle.page_pages.specs.DeskDevices.{devices_page}
 use Rattle.page_pages.specs.Owners.{owner_page}
+use Rattle.page_pages.specs.declared.desk_account.DeskAccount.{DeskAccount}
 use Rattle.page_pages.specs.Statements.{statement_page}
 use Rattle.page_pages.specs.declared.outcome.Outcome.{Outcome}
 use Rattle.page_pages.specs.declared.owner.Owner.{Owner}
@@ -105,3 +109,30 @@ abbrev pub StatementPagesAreTold : Type 0
 StatementPagesAreTold = (account : List ℕ) (first last : ℕ) (form : Form) (drawn_up : ℕ)
     → IsAnswered (Account account (StatementPage first last form drawn_up)) (λ told.
     if_opened told (statement_page (statement_told account first last form drawn_up told)))
+
+-- ---- the pages of the desk
+
+-- the quota up to the month, the jobs that go on, the last 20 that ended, and all grants
+abbrev pub desk_told : (account : List ℕ) (month : ℕ) (told : AccountTold) → DeskAccount
+desk_told account month told = record {
+  account = account;
+  month = month;
+  granted = granted_told told month;
+  reserved = reserved_told told;
+  charged = charged_told told;
+  waiting = map whole_job (unfinished_jobs told);
+  ended = map whole_job (take 20 (latest_first told));
+  grants = map grant_of (entries told.grants);
+}
+
+abbrev pub DeskPagesAreTold : Type 0
+DeskPagesAreTold = (account : List ℕ) (month : ℕ)
+    → IsAnswered (Account account (DeskPage month)) (λ told.
+    if_opened told (desk_account_page (desk_told account month told)))
+
+-- all devices
+abbrev pub devices_page_told : AccountTold → List ℕ
+devices_page_told told = devices_page (map (whole_device told) (entries told.on))
+
+abbrev pub DevicesPagesAreTold : Type 0
+DevicesPagesAreTold = IsAnswered DevicesPage (λ told. reply.Line (devices_page_told told))

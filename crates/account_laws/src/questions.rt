@@ -6,7 +6,7 @@ ghost use Rattle.account_laws.specs.EachQuestion.{EachQuestionIsTold};
 ghost use Rattle.account_laws.specs.JobLinesTold.{EndedAreTold, JobsAreTold, WaitingIsTold};
 ghost use Rattle.account_laws.specs.LinesTold.{AccountsAreListed, DevicesAreTold, GrantsAreTold, LeftIsTold, OthersAreTold};
 ghost use Rattle.account_laws.specs.OfferedReleases.{ReleasesAreOffered};
-ghost use Rattle.account_laws.specs.PagesTold.{OwnerPagesAreTold, StatementPagesAreTold};
+ghost use Rattle.account_laws.specs.PagesTold.{DeskPagesAreTold, DevicesPagesAreTold, OwnerPagesAreTold, StatementPagesAreTold};
 ghost use Rattle.account_laws.specs.QuestionsTold.{QuestionsTellTheLife};
 ghost use Rattle.account_laws.specs.StatementsTold.{StatementsAreTold};
 
@@ -30,12 +30,14 @@ pub fn questions_tell_the_life()
     ensures each { EachQuestionIsTold }
 {}
 
-/// Law: your page, and the statement of a month for paper, show your quota, your jobs and the
-/// devices as you were told of them.
-#[tactic(auto, using(crate::proofs::PagesTold::owner_pages_are_told, crate::proofs::PagesTold::statement_pages_are_told))]
+/// Law: your page, the statement of a month for paper, and the pages of the desk show your quota, your
+/// jobs and the devices as you were told of them.
+#[tactic(auto, using(crate::proofs::PagesTold::desk_pages_are_told, crate::proofs::PagesTold::devices_pages_are_told, crate::proofs::PagesTold::owner_pages_are_told, crate::proofs::PagesTold::statement_pages_are_told))]
 pub fn pages_tell_the_life()
     ensures owner { OwnerPagesAreTold }
     ensures statement { StatementPagesAreTold }
+    ensures desk { DeskPagesAreTold }
+    ensures devices { DevicesPagesAreTold }
 {}
 
 /// Law: your page offers the release of a job exactly where that would be done at the same moment,

@@ -1,6 +1,7 @@
 -- Rule: The pages of an account (all this project's own).
 use Rattle.std.specs.Prelude.{ℕ, Bool, List, map, Option, Some}
 use Rattle.std.specs.FinMap.{entries, values}
+use Rattle.page_pages.specs.declared.desk_account.DeskAccount.{DeskAccount}
 use Rattle.page_pages.specs.declared.outcome.Outcome.{Outcome}
 use Rattle.page_pages.specs.declared.owner.Owner.{Owner}
 use Rattle.page_pages.specs.declared.statement.Form.{Form}
@@ -48,4 +49,18 @@ statement_of account first last form drawn_up room = record {
   charged = charged_in room;
   grants = map grant_of (entries room.grants);
   ended = completed (values room.jobs);
+}
+
+-- what the desk's page of an account shows: the quota up to a month, all jobs that have not ended, the
+-- last that have, and all grants
+abbrev pub desk_of : (account : List ℕ) (month : ℕ) (room : RoomValue) → DeskAccount
+desk_of account month room = record {
+  account = account;
+  month = month;
+  granted = granted_to room month;
+  reserved = reserved_in room;
+  charged = charged_in room;
+  waiting = not_completed (values room.jobs);
+  ended = first_jobs (Some most_shown) (completed (values room.jobs));
+  grants = map grant_of (entries room.grants);
 }

@@ -3,15 +3,17 @@ use Rattle.std.specs.Prelude.{◌≡◌, ℕ, ⊤, Bool, true, false, List, map,
 use Rattle.std.specs.FinMap.{entries, values}
 use Rattle.account_machine.specs.declared.event.Reply.{Reply}
 use Rattle.account_machine.specs.declared.event.Reply.TheVariants as reply
+use Rattle.page_pages.specs.DeskAccounts.{desk_account_page}
+use Rattle.page_pages.specs.DeskDevices.{devices_page}
 use Rattle.page_pages.specs.Owners.{owner_page}
 use Rattle.page_pages.specs.Statements.{statement_page}
 use Rattle.account_questions.specs.Lists.{accounts_text, devices_text, grants_text, jobs_text}
-use Rattle.account_questions.specs.Pages.{owner_of, statement_of}
+use Rattle.account_questions.specs.Pages.{desk_of, owner_of, statement_of}
 use Rattle.account_questions.specs.Quotas.{quota_text, statement_text}
 use Rattle.account_questions.specs.declared.question.About.{About}
-use Rattle.account_questions.specs.declared.question.About.TheVariants.{Left, Statement, Jobs, Ended, Grants, Waiting, Again, OwnerPage, StatementPage}
+use Rattle.account_questions.specs.declared.question.About.TheVariants.{Left, Statement, Jobs, Ended, Grants, Waiting, Again, OwnerPage, StatementPage, DeskPage}
 use Rattle.account_questions.specs.declared.question.Question.{Question}
-use Rattle.account_questions.specs.declared.question.Question.TheVariants.{Ping, End, Devices, Accounts, Check, Account}
+use Rattle.account_questions.specs.declared.question.Question.TheVariants.{Ping, End, Devices, DevicesPage, Accounts, Check, Account}
 use Rattle.account_questions.specs.Stations.{again_told, waiting_told}
 use Rattle.account_state.specs.Grants.{grant_of}
 use Rattle.account_state.specs.Names.{next_names}
@@ -45,6 +47,7 @@ NeedsDevices _ = ⊥
 -- those of devices
 abbrev pub ConcernsDevices : Question → Type 0
 ConcernsDevices Devices = ⊤
+ConcernsDevices DevicesPage = ⊤
 ConcernsDevices (Account account about) = NeedsDevices about
 ConcernsDevices _ = ⊥
 
@@ -83,6 +86,8 @@ answer_about account (OwnerPage month outcome stays needs_password) room devices
     reply.Line (owner_page (owner_of account month outcome stays needs_password room devices))
 answer_about account (StatementPage first last form drawn_up) room devices =
     reply.Line (statement_page (statement_of account first last form drawn_up room))
+answer_about account (DeskPage month) room devices =
+    reply.Line (desk_account_page (desk_of account month room))
 
 -- by the room of the account that it is about, if that is open, by the devices, and by the names of
 -- all accounts that are open
@@ -91,6 +96,7 @@ abbrev pub answer_to : Question
 answer_to Ping room devices names = reply.Line (codes "ok")
 answer_to End room devices names = reply.Line (codes "ok")
 answer_to Devices room devices names = reply.Line (devices_text (values devices))
+answer_to DevicesPage room devices names = reply.Line (devices_page (values devices))
 answer_to (Accounts behind) room devices names =
     reply.Line (accounts_text (next_names behind names))
 answer_to (Check account) None devices names = reply.Line (word_text NoAccount)

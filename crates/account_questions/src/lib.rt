@@ -13,7 +13,7 @@ mod text;
 pub use account_state::Summary;
 pub use lists::{accounts_lines, devices_lines, grants_lines, jobs_lines};
 pub use page_pages::{Act, Form, Outcome};
-pub use pages::{MOST_SHOWN, owner_page, statement_page};
+pub use pages::{MOST_SHOWN, desk_page, devices_page, owner_page, statement_page};
 pub use question::{About, Question};
 pub use station::{printed_by, waiting_at};
 pub use text::{check_line, quota_line, statement_line};

@@ -15,6 +15,8 @@ pub enum Question {
     End,
     /// The devices, by name.
     Devices,
+    /// The desk's page of devices.
+    DevicesPage,
     /// The names of accounts that come next behind a name, or first, at most 100.
     Accounts { behind: Option<Name> },
     /// Whether the rows of an account are sound. All of them are read.
@@ -76,5 +78,9 @@ pub enum About {
         last: u32,
         form: Form,
         drawn_up: u64,
+    },
+    /// The desk's page of an account, with the quota up to a month.
+    DeskPage {
+        month: u32,
     },
 }

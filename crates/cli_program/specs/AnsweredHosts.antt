@@ -1,4 +1,4 @@
--- Rule: Which Hosts `serve` has the pages answer (this project's own).
+-- Rule: Which Hosts `serve` has the pages and the desk answer (this project's own).
 use Rattle.std.specs.Prelude.{ℕ, Bool, true, false, List, ◌∷◌, ◌++◌, Option, None, Some, option_map}
 use Rattle.std.specs.List.{list_any}
 use Rattle.cli_program.specs.declared.serving.TheConstants.{OWN_HOSTS}
@@ -7,11 +7,12 @@ use Rattle.cli_words.specs.declared.address.Address.TheVariants.{Port}
 use Rattle.cli_words.specs.declared.served_door.ServedDoor.{ServedDoor}
 use Rattle.cli_words.specs.declared.serving.Serving.{Serving}
 use Rattle.cli_words.specs.declared.visitors.Visitors.{Visitors}
-use Rattle.cli_words.specs.declared.visitors.Visitors.TheVariants.{Pages}
+use Rattle.cli_words.specs.declared.visitors.Visitors.TheVariants.{Desk, Pages}
 
--- browsers come by the door, and it is a port
+-- browsers come by the door, at the pages or the desk, and it is a port
 abbrev pub is_page_port_of : Visitors → Address → Bool
 is_page_port_of Pages (Port port) = true
+is_page_port_of Desk (Port port) = true
 is_page_port_of _ _ = false
 
 abbrev pub is_page_port : ServedDoor → Bool

@@ -6,7 +6,7 @@ use Rattle.sqlite_trees.specs.declared.store.Store.{Ghosts}
 use Rattle.cli_words.specs.declared.served_door.ServedDoor.{ServedDoor}
 use Rattle.cli_words.specs.declared.serving.Serving.{Serving}
 use Rattle.cli_words.specs.declared.visitors.Visitors.{Visitors}
-use Rattle.cli_words.specs.declared.visitors.Visitors.TheVariants.{BoundStations, Clients, Operators, Pages, Stations}
+use Rattle.cli_words.specs.declared.visitors.Visitors.TheVariants.{BoundStations, Clients, Desk, Operators, Pages, Stations}
 use Rattle.cli_program.specs.AnsweredHosts.{hosts_for}
 use Rattle.serve_peers.specs.Journals.{hosts_of}
 use Rattle.serve_peers.specs.declared.line_connection.Side.TheVariants as side_is
@@ -18,6 +18,7 @@ use Rattle.serve_sockets.specs.declared.doors.Speech.TheVariants as speech_is
 abbrev pub IsSpokenBy : (visitors : Visitors) (devices : List ℕ) → Speech → Type 0
 IsSpokenBy Clients devices speech = speech ≡ speech_is.Http
 IsSpokenBy Pages devices speech = speech ≡ speech_is.Pages
+IsSpokenBy Desk devices speech = speech ≡ speech_is.Desk
 IsSpokenBy Stations devices speech = speech ≡ speech_is.Lines side_is.Station
 IsSpokenBy BoundStations devices speech = (names : Bor (List ℕ)) × (names.now ≡ devices)
     × (speech ≡ speech_is.Lines (side_is.Bound names))

@@ -122,7 +122,7 @@ fn set_up<S: Alter>(
     Ok(())
 }
 
-/// The names of the Hosts that the pages answer, parted by commas: this machine's own, and those that
+/// The names of the Hosts that the pages and the desk answer, parted by commas: this machine's own, and those that
 /// the command says. `None`, where it says none and no browser comes by a port: who stands before a
 /// socket has judged by which name it was asked.
 fn hosts_for(alloc: Global, asked: &Serving<'_>) -> Result<Option<&'static [u8]>, AllocError>
@@ -160,7 +160,7 @@ fn is_page_port(door: &ServedDoor<'_>) -> bool
     ensures { result ≡ is_page_port door.now }
 {
     match (door.visitors, door.address) {
-        (Visitors::Pages, Address::Port(_)) => true,
+        (Visitors::Pages | Visitors::Desk, Address::Port(_)) => true,
         _ => false,
     }
 }
@@ -222,6 +222,7 @@ fn kind_of(rt: &HostRuntime, door: &ServedDoor<'_>) -> io::Result<Kind>
     match door.visitors {
         Visitors::Clients => Ok(Kind::CLIENTS),
         Visitors::Pages => Ok(Kind::PAGES),
+        Visitors::Desk => Ok(Kind::DESK),
         Visitors::Stations => Ok(Kind::STATIONS),
         Visitors::BoundStations => Ok(Kind::station(kept(rt.alloc(), door.devices)?)),
         Visitors::Operators => Ok(Kind::OPERATORS),

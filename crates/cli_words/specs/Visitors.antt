@@ -7,11 +7,12 @@ use Rattle.cli_words.specs.Addresses.{IsAddressOf, is_all_digits}
 use Rattle.cli_words.specs.ServedWords.{SaysPlace}
 use Rattle.cli_words.specs.declared.served_door.ServedDoor.{ServedDoor}
 use Rattle.cli_words.specs.declared.visitors.Visitors.{Visitors}
-use Rattle.cli_words.specs.declared.visitors.Visitors.TheVariants.{BoundStations, Clients, Operators, Pages, Stations}
+use Rattle.cli_words.specs.declared.visitors.Visitors.TheVariants.{BoundStations, Clients, Desk, Operators, Pages, Stations}
 
 abbrev pub name_of : Visitors → List ℕ
 name_of Clients = codes "clients"
 name_of Pages = codes "pages"
+name_of Desk = codes "desk"
 name_of Stations = codes "stations"
 name_of BoundStations = codes "station"
 name_of Operators = codes "operators"
@@ -20,6 +21,7 @@ name_of Operators = codes "operators"
 abbrev pub option_of : Visitors → List ℕ
 option_of Clients = codes "--clients"
 option_of Pages = codes "--pages"
+option_of Desk = codes "--desk"
 option_of Stations = codes "--stations"
 option_of BoundStations = codes "--station"
 option_of Operators = codes "--operators"
@@ -28,6 +30,7 @@ option_of Operators = codes "--operators"
 abbrev pub names_devices : Visitors → Bool
 names_devices Clients = false
 names_devices Pages = false
+names_devices Desk = false
 names_devices Stations = false
 names_devices BoundStations = true
 names_devices Operators = false

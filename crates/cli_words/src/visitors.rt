@@ -9,6 +9,8 @@ pub enum Visitors {
     Clients,
     /// Browsers, over HTTP, at the pages.
     Pages,
+    /// Operators' browsers, over HTTP, at the desk.
+    Desk,
     /// Stations, by lines, for any device.
     Stations,
     /// Stations, by lines, at a bound door: for some devices alone.
@@ -25,6 +27,7 @@ impl Visitors {
         match self {
             Visitors::Clients => "clients",
             Visitors::Pages => "pages",
+            Visitors::Desk => "desk",
             Visitors::Stations => "stations",
             Visitors::BoundStations => "station",
             Visitors::Operators => "operators",
@@ -37,7 +40,11 @@ impl Visitors {
     {
         match self {
             Visitors::BoundStations => true,
-            Visitors::Clients | Visitors::Pages | Visitors::Stations | Visitors::Operators => false,
+            Visitors::Clients
+            | Visitors::Pages
+            | Visitors::Desk
+            | Visitors::Stations
+            | Visitors::Operators => false,
         }
     }
 
@@ -48,6 +55,7 @@ impl Visitors {
         match word {
             "--clients" => Some(Visitors::Clients),
             "--pages" => Some(Visitors::Pages),
+            "--desk" => Some(Visitors::Desk),
             "--stations" => Some(Visitors::Stations),
             "--station" => Some(Visitors::BoundStations),
             "--operators" => Some(Visitors::Operators),

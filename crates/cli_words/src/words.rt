@@ -88,6 +88,9 @@ const CLIENTS_TOO: &str = "clients";
 /// The option of `serve` for a door of browsers.
 const PAGES_TOO: &str = "pages";
 
+/// The option of `serve` for a door of operators' browsers.
+const DESK_TOO: &str = "desk";
+
 /// The option of `serve` for a further door of stations.
 const STATIONS_TOO: &str = "stations";
 
@@ -257,6 +260,12 @@ const MORE_CLIENTS: Argument = Argument {
 const FOR_PAGES: Argument = Argument {
     name: PAGES_TOO,
     help: Some("An address of browsers, for pages"),
+    kind: Kind::Named(ADDRESS),
+};
+
+const FOR_DESK: Argument = Argument {
+    name: DESK_TOO,
+    help: Some("An address of operators' browsers, behind a proxy that names them"),
     kind: Kind::Named(ADDRESS),
 };
 
@@ -454,6 +463,7 @@ pub(crate) const COMMANDS: [CommandWords; 25] = [
             FOR_OPERATORS,
             MORE_CLIENTS,
             FOR_PAGES,
+            FOR_DESK,
             MORE_STATIONS,
             ONE_STATION,
             MORE_OPERATORS,

@@ -3,9 +3,9 @@ use Rattle.std.specs.Prelude.{◌≡◌, ℕ, ◌≤◌, Bool, true, false, List
 use Rattle.input_fields.specs.Fields.{SaysNumber}
 use Rattle.input_lines.specs.Saying.{AreFields, SaysMonth, name_said}
 use Rattle.account_questions.specs.declared.question.About.{About}
-use Rattle.account_questions.specs.declared.question.About.TheVariants.{Left, Statement, Jobs, Ended, Grants, Waiting, Again, OwnerPage, StatementPage}
+use Rattle.account_questions.specs.declared.question.About.TheVariants.{Left, Statement, Jobs, Ended, Grants, Waiting, Again, OwnerPage, StatementPage, DeskPage}
 use Rattle.account_questions.specs.declared.question.Question.{Question}
-use Rattle.account_questions.specs.declared.question.Question.TheVariants.{Ping, End, Devices, Accounts, Check, Account}
+use Rattle.account_questions.specs.declared.question.Question.TheVariants.{Ping, End, Devices, DevicesPage, Accounts, Check, Account}
 
 -- a station asks what waits for an account, and for a job's documents again; an operator all else
 -- that lines ask
@@ -35,11 +35,13 @@ SaysAbout fields account (Again device job) =
 -- no line asks for a page
 SaysAbout fields account (OwnerPage month outcome stays needs_password) = ⊥
 SaysAbout fields account (StatementPage first last form drawn_up) = ⊥
+SaysAbout fields account (DeskPage month) = ⊥
 
 abbrev pub SaysQuestion : (fields : List (List ℕ)) → Question → Type 0
 SaysQuestion fields Ping = fields ≡ codes "ping" ∷ []
 SaysQuestion fields End = fields ≡ codes "end" ∷ []
 SaysQuestion fields Devices = fields ≡ codes "devices" ∷ []
+SaysQuestion fields DevicesPage = ⊥
 SaysQuestion fields (Accounts behind) = fields ≡ codes "accounts" ∷ name_said behind ∷ []
 SaysQuestion fields (Check account) = fields ≡ codes "check" ∷ account ∷ []
 SaysQuestion fields (Account account about) = SaysAbout fields account about

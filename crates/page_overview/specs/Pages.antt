@@ -3,6 +3,7 @@ use Rattle.std.specs.Prelude.{◌≡◌, ℕ, ◌+◌, ◌-◌, ◌/◌, ◌%◌
 use Rattle.std.specs.List.{starts_with}
 use Rattle.std.specs.Ordering.{is_lt}
 use Rattle.jiff_core.specs.Calendar.{days_in_month}
+use Rattle.page_pages.specs.DeskRooms.{desk_page}
 use Rattle.page_pages.specs.Rooms.{room_page}
 use Rattle.page_pages.specs.declared.accounts.AccountLine.{AccountLine}
 use Rattle.page_pages.specs.declared.chart.DayLine.{DayLine}
@@ -73,10 +74,19 @@ pub record Lists (it : Overview) (gathers : Bool) (front : Option (List ℕ)) (d
   pub behind_is : room.behind ≡ behind
 
 -- the days of the month, and the first accounts of those that are asked for
-abbrev pub IsPage : (it : Overview) (gathers : Bool) (front behind : Option (List ℕ))
-    (page : List ℕ) → Type 0
-IsPage it gathers front behind page = (room : Room)
-    × Lists it gathers front (day_lines it)
+abbrev pub ListsFound : (it : Overview) (gathers : Bool) (front behind : Option (List ℕ))
+    → Room → Type 0
+ListsFound it gathers front behind room = Lists it gathers front (day_lines it)
     (take MOST_LISTED (found front behind it.accounts.items))
     (next_behind (found front behind it.accounts.items)) room
-    × (page ≡ room_page room)
+
+abbrev pub IsPage : (it : Overview) (gathers : Bool) (front behind : Option (List ℕ))
+    (page : List ℕ) → Type 0
+IsPage it gathers front behind page =
+    (room : Room) × ListsFound it gathers front behind room × (page ≡ room_page room)
+
+-- the desk's first page shows the same
+abbrev pub IsDesk : (it : Overview) (gathers : Bool) (front behind : Option (List ℕ))
+    (page : List ℕ) → Type 0
+IsDesk it gathers front behind page =
+    (room : Room) × ListsFound it gathers front behind room × (page ≡ desk_page room)

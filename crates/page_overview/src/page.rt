@@ -1,14 +1,15 @@
-//! The print room's page of an overview: which days and which accounts it lists.
+//! The print room's page of an overview, and that of the desk: which days and which accounts they list.
 
 ghost use Rattle.std.specs.Prelude.{◌≡◌, ◌++◌, ◌≤◌, ℕ, length, List, IfOk, OnOk};
-ghost use Rattle.page_overview.specs.Pages.{begins_so, comes_behind, days_in, found, is_listed, next_behind, numbered, IsPage, Lists};
+ghost use Rattle.page_overview.specs.Pages.{begins_so, comes_behind, days_in, found, is_listed, next_behind, numbered, IsDesk, IsPage, Lists};
+ghost use Rattle.page_pages.specs.DeskRooms.{desk_page};
 ghost use Rattle.page_pages.specs.Rooms.{room_page};
 ghost use Rattle.page_pages.specs.declared.room.Room.{Room as RoomRecord};
 
 use crate::overview::Overview;
 use account_rules::{LAST_MONTH, Name};
 use jiff_core::civil::days_in_month;
-use page_pages::{AccountLine, DayLine, Room, put_room_page};
+use page_pages::{AccountLine, DayLine, Room, put_desk_page, put_room_page};
 use std::alloc::{AllocError, Global};
 
 /// The most accounts that one page lists.
@@ -43,6 +44,32 @@ impl Overview {
         )
     }
 
+    /// Appends the desk's first page. It lists accounts as the print room's page does.
+    pub fn put_desk(
+        &self,
+        out: &mut Vec<u8>,
+        gathers: bool,
+        front: Option<Name>,
+        behind: Option<Name>,
+    ) -> Result<(), AllocError>
+        ensures { OnOk result ((page : List ℕ) × IsDesk self.now gathers front behind page
+            × (out.new.items ≡ out.old.items ++ page)) }
+    {
+        let alloc = *out.allocator();
+        let days = day_lines(alloc, &self.days[..days_in(self.month)])?;
+        let mut accounts = find(alloc, self.accounts.as_slice(), &front, &behind)?;
+        let next = next_behind(accounts.as_slice());
+        accounts.truncate(MOST_LISTED);
+        self.put_desk_listed(
+            out,
+            gathers,
+            front,
+            days.as_slice(),
+            accounts.as_slice(),
+            next,
+        )
+    }
+
     /// Appends the page with these days and these accounts. `behind` is the last of them, if more
     /// come behind it.
     fn put_listed(
@@ -58,7 +85,40 @@ impl Overview {
             × Lists self.now gathers front days.now accounts.now behind room
             × (out.new.items ≡ out.old.items ++ room_page room)) }
     {
-        let room = Room {
+        let room = self.room(gathers, front, days, accounts, behind);
+        put_room_page(out, &room)
+    }
+
+    /// Appends the desk's first page with these days and these accounts, as `put_listed`.
+    fn put_desk_listed(
+        &self,
+        out: &mut Vec<u8>,
+        gathers: bool,
+        front: Option<Name>,
+        days: &[DayLine],
+        accounts: &[AccountLine],
+        behind: Option<Name>,
+    ) -> Result<(), AllocError>
+        ensures { OnOk result ((room : RoomRecord)
+            × Lists self.now gathers front days.now accounts.now behind room
+            × (out.new.items ≡ out.old.items ++ desk_page room)) }
+    {
+        let room = self.room(gathers, front, days, accounts, behind);
+        put_desk_page(out, &room)
+    }
+
+    /// What the page shows, with these days and these accounts.
+    fn room<'a>(
+        &'a self,
+        gathers: bool,
+        front: Option<Name>,
+        days: &'a [DayLine],
+        accounts: &'a [AccountLine],
+        behind: Option<Name>,
+    ) -> Room<'a>
+        ensures { Lists self.now gathers front days.now accounts.now behind result }
+    {
+        Room {
             as_of: self.as_of,
             gathers,
             skips: self.skips,
@@ -76,8 +136,7 @@ impl Overview {
             front,
             accounts,
             behind,
-        };
-        put_room_page(out, &room)
+        }
     }
 }
 

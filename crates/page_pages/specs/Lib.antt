@@ -3,6 +3,12 @@ pub mod Balances
 pub mod Begun
 pub mod ButtonLaws
 pub mod Charts
+pub mod DeskAccounts
+pub mod DeskDevices
+pub mod DeskForms
+pub mod DeskGrants
+pub mod DeskRooms
+pub mod DeskTolds
 pub mod Devices
 pub mod Ended
 pub mod Forms

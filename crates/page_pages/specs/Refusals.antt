@@ -3,13 +3,14 @@ use Rattle.std.specs.Prelude.{ℕ, List, [], ◌∷◌, ◌++◌, codes}
 use Rattle.page_pages.specs.Frames.{document, top}
 use Rattle.page_markup.specs.Parts.{Part, html, Mark}
 use Rattle.page_pages.specs.declared.refusal.Refusal.{Refusal}
-use Rattle.page_pages.specs.declared.refusal.Refusal.TheVariants.{BadRequest, Misdirected, Forbidden, NotFound, OnlyRead, OnlyPost, TooLarge, WrongType, NoPassword, NoSpace, Busy, Failed}
-use Rattle.page_pages.specs.declared.texts.TheConstants.{ASK_AGAIN, BAD_REQUEST, BY_OTHER_NAME, CANNOT_DO, FAILED_HERE, FROM_ELSEWHERE, HAS_FAILED, HAS_NO_PASSWORD, IS_BAD_REQUEST, IS_FULL, IS_ONLY_DONE, IS_ONLY_READ, IS_TOO_LARGE, IS_WRONG_TYPE, WAS_NOT_DONE, NOT_NOW, OTHER_NAME, NO_PAGE, NO_SUCH_PAGE, PASSWORD_MISSING, PRINT_ROOM, START_PAGE, TOO_LARGE}
+use Rattle.page_pages.specs.declared.refusal.Refusal.TheVariants.{BadRequest, Misdirected, Forbidden, NoOperator, NotFound, OnlyRead, OnlyPost, TooLarge, WrongType, NoPassword, NoSpace, Busy, Failed}
+use Rattle.page_pages.specs.declared.texts.TheConstants.{ASK_AGAIN, BAD_REQUEST, BY_OTHER_NAME, CANNOT_DO, FAILED_HERE, FROM_ELSEWHERE, HAS_FAILED, HAS_NO_PASSWORD, IS_BAD_REQUEST, IS_FULL, IS_NO_OPERATOR, IS_ONLY_DONE, IS_ONLY_READ, IS_TOO_LARGE, IS_WRONG_TYPE, WAS_NOT_DONE, NOT_KNOWN_HERE, NOT_NOW, OTHER_NAME, NO_PAGE, NO_SUCH_PAGE, PASSWORD_MISSING, PRINT_ROOM, START_PAGE, TOO_LARGE}
 
 abbrev pub heading : Refusal → List ℕ
 heading BadRequest = BAD_REQUEST.now
 heading Misdirected = OTHER_NAME.now
 heading Forbidden = WAS_NOT_DONE.now
+heading NoOperator = NOT_KNOWN_HERE.now
 heading NotFound = NO_PAGE.now
 heading OnlyRead = CANNOT_DO.now
 heading OnlyPost = CANNOT_DO.now
@@ -24,6 +25,7 @@ abbrev pub sentence : Refusal → List ℕ
 sentence BadRequest = IS_BAD_REQUEST.now
 sentence Misdirected = BY_OTHER_NAME.now
 sentence Forbidden = FROM_ELSEWHERE.now
+sentence NoOperator = IS_NO_OPERATOR.now
 sentence NotFound = NO_SUCH_PAGE.now
 sentence OnlyRead = IS_ONLY_READ.now
 sentence OnlyPost = IS_ONLY_DONE.now

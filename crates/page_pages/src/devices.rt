@@ -86,14 +86,14 @@ fn look_of(on: bool) -> &'static str
 }
 
 /// Gives the name of the sign that tells whether a device is on.
-fn on_sign(on: bool) -> &'static str
+pub(crate) fn on_sign(on: bool) -> &'static str
     ensures { result.now ≡ on_sign on }
 {
     if on { "on" } else { "off" }
 }
 
 /// Gives the word that tells whether a device is on.
-fn on_word(on: bool) -> &'static str
+pub(crate) fn on_word(on: bool) -> &'static str
     ensures { result.now ≡ on_word on }
 {
     if on { ON } else { OFF }

@@ -7,6 +7,13 @@ mod accounts;
 mod balance;
 mod begun;
 mod chart;
+mod desk_account;
+mod desk_devices;
+mod desk_form;
+mod desk_grants;
+mod desk_room;
+mod desk_script;
+mod desk_told;
 mod devices;
 mod ended;
 mod form;
@@ -32,6 +39,11 @@ mod waiting;
 pub use accounts::AccountLine;
 pub use begun::BegunLine;
 pub use chart::DayLine;
+pub use desk_account::{DeskAccount, put_desk_account};
+pub use desk_devices::put_devices_page;
+pub use desk_room::put_desk_page;
+pub use desk_script::DESK_SCRIPT;
+pub use desk_told::{Came, Deed, LineTold, Onward, put_told_page};
 pub use laws::{
     buttons_release, holds_go_through, names_are_no_tags, passwords_are_kept, prices_are_reserved,
 };

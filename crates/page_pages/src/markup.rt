@@ -71,3 +71,30 @@ pub(crate) const END_OF_CHART: &str = "</tbody>\n</table></div>\n</details>\n</s
 
 /// Ends the foot, and the page.
 pub(crate) const END_OF_PAGE: &str = "</p></footer>\n</body>\n</html>\n";
+
+/// Loads the script of all pages and that of the desk, on a page of the desk.
+pub(crate) const DESK_SCRIPTS: &str =
+    "<script src=\"/page.js\" defer></script>\n<script src=\"/desk.js\" defer></script>\n";
+
+/// Begins a form of the desk, whose values are a line.
+pub(crate) const LINE_FORM: &str = "<form data-line method=\"post\" action=\"/line.html\"";
+
+/// Begins the cell with the form of a job, on a page of the desk.
+pub(crate) const ACTS_OF_LINE: &str =
+    "<td class=\"acts\"><form data-line method=\"post\" action=\"/line.html\">";
+
+/// What a field of a name takes (`Name`).
+pub(crate) const NAME_FIELD: &str = " required maxlength=\"32\" pattern=\"[a-z][a-z0-9\\-]*\" \
+    autocapitalize=\"none\" autocomplete=\"off\" spellcheck=\"false\"";
+
+/// What a field of a month takes, from January 2000 on.
+pub(crate) const MONTH_FIELD: &str =
+    " required maxlength=\"7\" pattern=\"20[0-9][0-9]-(0[1-9]|1[0-2])\" autocomplete=\"off\"";
+
+/// What a field of units takes that are granted: 1 to 1000000000.
+pub(crate) const UNITS_FIELD: &str = " required inputmode=\"numeric\" maxlength=\"10\" \
+    pattern=\"[1-9][0-9]{0,8}|1000000000\" autocomplete=\"off\"";
+
+/// What a field of a rate takes: 1 to 100.
+pub(crate) const RATE_FIELD: &str = " required inputmode=\"numeric\" maxlength=\"3\" \
+    pattern=\"[1-9][0-9]?|100\" autocomplete=\"off\"";

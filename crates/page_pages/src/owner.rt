@@ -167,7 +167,11 @@ fn put_reload_words(out: &mut Vec<u8>, owner: &Owner) -> Result<(), AllocError>
 }
 
 /// Appends the name of the account, and the link to its statement of the month.
-fn put_account_title(out: &mut Vec<u8>, account: &[u8], month: u32) -> Result<(), AllocError>
+pub(crate) fn put_account_title(
+    out: &mut Vec<u8>,
+    account: &[u8],
+    month: u32,
+) -> Result<(), AllocError>
     ensures { OnOk result
         (out.new.items ≡ out.old.items ++ html (account_title account.now month)) }
 {

@@ -8,9 +8,9 @@ ghost use Rattle.page_pages.specs.Refusals.{heading, refusal_card, refusal_page,
 use crate::frame::{put_document, put_top};
 use crate::texts::{
     ASK_AGAIN, BAD_REQUEST, BY_OTHER_NAME, CANNOT_DO, FAILED_HERE, FROM_ELSEWHERE, HAS_FAILED,
-    HAS_NO_PASSWORD, IS_BAD_REQUEST, IS_FULL, IS_ONLY_DONE, IS_ONLY_READ, IS_TOO_LARGE,
-    IS_WRONG_TYPE, NO_PAGE, NO_SUCH_PAGE, NOT_NOW, OTHER_NAME, PASSWORD_MISSING, PRINT_ROOM,
-    START_PAGE, TOO_LARGE, WAS_NOT_DONE,
+    HAS_NO_PASSWORD, IS_BAD_REQUEST, IS_FULL, IS_NO_OPERATOR, IS_ONLY_DONE, IS_ONLY_READ,
+    IS_TOO_LARGE, IS_WRONG_TYPE, NO_PAGE, NO_SUCH_PAGE, NOT_KNOWN_HERE, NOT_NOW, OTHER_NAME,
+    PASSWORD_MISSING, PRINT_ROOM, START_PAGE, TOO_LARGE, WAS_NOT_DONE,
 };
 use page_markup::{Piece, put_all};
 use std::alloc::AllocError;
@@ -24,6 +24,8 @@ pub enum Refusal {
     Misdirected,
     /// A form that another site may have sent.
     Forbidden,
+    /// A request at the desk that names no operator.
+    NoOperator,
     /// A path of nothing, or of an account that is not open.
     NotFound,
     /// Another method than GET and HEAD, where something is to be read.
@@ -62,6 +64,7 @@ fn heading(refusal: Refusal) -> &'static str
         Refusal::BadRequest => BAD_REQUEST,
         Refusal::Misdirected => OTHER_NAME,
         Refusal::Forbidden => WAS_NOT_DONE,
+        Refusal::NoOperator => NOT_KNOWN_HERE,
         Refusal::NotFound => NO_PAGE,
         Refusal::OnlyRead | Refusal::OnlyPost | Refusal::WrongType => CANNOT_DO,
         Refusal::TooLarge => TOO_LARGE,
@@ -79,6 +82,7 @@ fn sentence(refusal: Refusal) -> &'static str
         Refusal::BadRequest => IS_BAD_REQUEST,
         Refusal::Misdirected => BY_OTHER_NAME,
         Refusal::Forbidden => FROM_ELSEWHERE,
+        Refusal::NoOperator => IS_NO_OPERATOR,
         Refusal::NotFound => NO_SUCH_PAGE,
         Refusal::OnlyRead => IS_ONLY_READ,
         Refusal::OnlyPost => IS_ONLY_DONE,

@@ -98,7 +98,7 @@ fn put_room_document(out: &mut Vec<u8>, room: &Room<'_>) -> Result<(), AllocErro
 }
 
 /// Appends the element that has a browser load the page anew, if it is to.
-fn put_reload_if(out: &mut Vec<u8>, reloads: bool) -> Result<(), AllocError>
+pub(crate) fn put_reload_if(out: &mut Vec<u8>, reloads: bool) -> Result<(), AllocError>
     ensures { OnOk result (out.new.items ≡ out.old.items ++ reload_if reloads) }
 {
     if !reloads {
@@ -110,7 +110,7 @@ fn put_reload_if(out: &mut Vec<u8>, reloads: bool) -> Result<(), AllocError>
 /// Appends the heading, and the remarks that hold: accounts are being gathered, some were left out,
 /// there are more.
 #[tactic(auto, using(std::proofs::Common::append_assoc), unfolding(crate::specs::Rooms::room_head))]
-fn put_room_head(out: &mut Vec<u8>, room: &Room<'_>) -> Result<(), AllocError>
+pub(crate) fn put_room_head(out: &mut Vec<u8>, room: &Room<'_>) -> Result<(), AllocError>
     ensures { OnOk result (out.new.items ≡ out.old.items ++ room_head room.now) }
 {
     put_room_title(out, room.as_of, front_text(&room.front))?;
@@ -160,7 +160,7 @@ fn put_room_lists(out: &mut Vec<u8>, room: &Room<'_>) -> Result<(), AllocError>
 }
 
 /// Gives what the names of the listed accounts begin with: nothing, where all are listed.
-fn front_text(front: &Option<Name>) -> &[u8]
+pub(crate) fn front_text(front: &Option<Name>) -> &[u8]
     ensures { result.now ≡ front_text front.now }
 {
     match front {

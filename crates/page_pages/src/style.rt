@@ -142,6 +142,11 @@ input[type=checkbox]{width:1.25rem;min-height:1.25rem;height:1.25rem;margin:0 .5
 .fields~p,noscript p{margin-top:1rem}
 .find{display:flex;gap:.5rem;align-items:end}
 .find button{min-height:2.75rem}
+.pair .fields{grid-template-columns:repeat(2,minmax(0,1fr))}
+.acts>div{display:flex;flex-wrap:wrap;gap:.5rem 1rem;justify-content:flex-end}
+.acts .few{width:5rem;min-height:2.5rem}
+.acts>div form{flex-wrap:nowrap}
+code{overflow-wrap:anywhere}
 summary{padding:.5rem 0;font-weight:600;color:var(--juniper);cursor:pointer}
 /* the month */
 .chart svg{display:block;width:100%;height:12rem;border-block:1px solid var(--edge);border-top:1px dashed var(--rule)}
@@ -193,7 +198,7 @@ main{gap:1rem;padding-block:1.5rem}
 .card,.note{padding:1rem}
 .pair{gap:1rem}
 .tiles{gap:1rem}
-.balance,.fields{grid-template-columns:minmax(0,1fr)}
+.balance,.fields,.pair .fields{grid-template-columns:minmax(0,1fr)}
 button{min-height:2.75rem}
 .acts form>*{flex:1}
 .fields button,.find{width:100%}

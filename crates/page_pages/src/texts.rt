@@ -438,3 +438,111 @@ pub(crate) const UNITS_OF_DAY: &str = "Units";
 pub(crate) const NO_ACCOUNTS: &str = "No account that was counted has such a name.";
 
 pub(crate) const NEXT_ACCOUNTS: &str = "Next accounts";
+
+// ---- the desk
+pub(crate) const DESK: &str = "Desk";
+
+pub(crate) const TO_ACCOUNTS: &str = "All accounts";
+
+pub(crate) const OPEN_ACCOUNT: &str = "Open an account";
+
+pub(crate) const NAME_HELP: &str = "1 to 32 small letters, digits and hyphens, the first a letter.";
+
+pub(crate) const OPEN: &str = "Open";
+
+pub(crate) const GRANT_UNITS: &str = "Grant units";
+
+pub(crate) const MONTH_HELP: &str =
+    "As 2026-12. They count from its first day on, and a month is granted once.";
+
+pub(crate) const UNITS_GIVEN: &str = "Units";
+
+pub(crate) const GRANT: &str = "Grant";
+
+pub(crate) const GIVE_BACK: &str = "Give units back";
+
+pub(crate) const GIVE_BACK_HELP: &str =
+    "They count at once. Who takes some off, or notes a reason, does it in a terminal: ipp-room-desk correct.";
+
+pub(crate) const GIVE: &str = "Give back";
+
+pub(crate) const NO_MONTH_LEFT: &str =
+    "Units were given back so often that no month is left for it.";
+
+pub(crate) const GRANTS: &str = "Grants";
+
+pub(crate) const NO_GRANTS: &str = "Nothing was granted yet.";
+
+pub(crate) const IS_GIVEN_BACK: &str = "Given back";
+
+pub(crate) const GRANTS_OF_FILE: &str = "Grant by a file";
+
+pub(crate) const ROWS_HELP: &str =
+    "CSV: account, month and units in each row, as alice,2026-12,500. Each row is told what it came to.";
+
+pub(crate) const GRANT_ROWS: &str = "Grant";
+
+pub(crate) const ROWS_SCRIPT: &str =
+    "For this the browser has to run scripts. All else works without.";
+
+pub(crate) const FILE_EMPTY: &str = "Choose a file with at least one row, and at most 100000.";
+
+pub(crate) const ROW_BAD: &str = "This is no account, month and units. It was not sent.";
+
+pub(crate) const ROW_BROKEN: &str =
+    "The print server gave no answer. It may have been done. What follows was not sent.";
+
+pub(crate) const ROW: &str = "Row";
+
+pub(crate) const GRANT_LINE: &str = "Grant";
+
+pub(crate) const CAME: &str = "What it came to";
+
+pub(crate) const ROWS_DONE: &str = "Granted:";
+
+pub(crate) const ROWS_SENT: &str = "Being granted:";
+
+pub(crate) const ADD_DEVICE: &str = "Add a device";
+
+pub(crate) const ALL_DEVICES: &str = "All devices";
+
+pub(crate) const NO_KNOWN_DEVICES: &str = "No device is known yet.";
+
+pub(crate) const TURN_ON: &str = "Turn on";
+
+pub(crate) const TURN_OFF: &str = "Turn off";
+
+pub(crate) const SET: &str = "Set";
+
+pub(crate) const SET_RATE: &str = "Set the units a page of";
+
+pub(crate) const IS_DONE: &str = "This was done";
+
+pub(crate) const IS_OPEN: &str = "The account is open.";
+
+pub(crate) const IS_GRANTED: &str = "The units are granted.";
+
+pub(crate) const IS_CANCELED: &str = "The job is cancelled, or stops if a device prints it.";
+
+pub(crate) const IS_HELD_NOW: &str = "The job is held, and reserves nothing.";
+
+pub(crate) const IS_TURNED_ON: &str = "The device is on.";
+
+pub(crate) const IS_TURNED_OFF: &str = "The device is off.";
+
+pub(crate) const IS_RATED: &str = "A page counts as many units there from now on.";
+
+pub(crate) const IS_NO_LINE: &str =
+    "This is nothing that the desk does: names have small letters, a month is as 2026-12, numbers are in digits alone.";
+
+pub(crate) const LINE_BROKEN: &str =
+    "The print server gave no answer. Look whether it was done before you do it again.";
+
+pub(crate) const ASKED_LINE: &str = "Line:";
+
+pub(crate) const ASKED_BY: &str = "By:";
+
+pub(crate) const NOT_KNOWN_HERE: &str = "You are not known here";
+
+pub(crate) const IS_NO_OPERATOR: &str =
+    "Who stands before these pages did not say who you are. Nothing is shown or done.";

@@ -114,7 +114,7 @@ fn put_job_cells(
 }
 
 /// Gives the name of a job, or that it was given none.
-fn name_words(name: &[u8]) -> &[u8]
+pub(crate) fn name_words(name: &[u8]) -> &[u8]
     ensures { result.now ≡ name_words name.now }
 {
     if name.is_empty() {
@@ -139,7 +139,7 @@ fn put_state_cell(
 }
 
 /// Appends the cells of a job's device, pages, copies, files, and when it was made.
-fn put_counts(out: &mut Vec<u8>, phase: Phase, s: &Standing) -> Result<(), AllocError>
+pub(crate) fn put_counts(out: &mut Vec<u8>, phase: Phase, s: &Standing) -> Result<(), AllocError>
     ensures { OnOk result (out.new.items ≡ out.old.items ++ html (counts_of phase s.now)) }
 {
     put_job_counts(
@@ -244,7 +244,7 @@ fn put_release_buttons(out: &mut Vec<u8>, units: u64, number: u32) -> Result<(),
 
 /// Appends the buttons of a job that is released.
 #[tactic(auto, using(std::proofs::Common::append_assoc), unfolding(crate::specs::Waiting::hold_buttons))]
-fn put_hold_buttons(out: &mut Vec<u8>, number: u32) -> Result<(), AllocError>
+pub(crate) fn put_hold_buttons(out: &mut Vec<u8>, number: u32) -> Result<(), AllocError>
     ensures { OnOk result (out.new.items ≡ out.old.items ++ hold_buttons number) }
 {
     put_button(out, "", "hold", HOLD, number)?;
@@ -252,7 +252,7 @@ fn put_hold_buttons(out: &mut Vec<u8>, number: u32) -> Result<(), AllocError>
 }
 
 #[tactic(auto, unfolding(crate::specs::Waiting::cancel_button))]
-fn put_cancel_button(out: &mut Vec<u8>, number: u32) -> Result<(), AllocError>
+pub(crate) fn put_cancel_button(out: &mut Vec<u8>, number: u32) -> Result<(), AllocError>
     ensures { OnOk result (out.new.items ≡ out.old.items ++ cancel_button number) }
 {
     put_button(out, "", "cancel", CANCEL, number)
@@ -291,7 +291,7 @@ fn put_waiting_columns(out: &mut Vec<u8>) -> Result<(), AllocError>
 }
 
 /// Appends the number and the name of a job.
-fn put_job_name(out: &mut Vec<u8>, number: u32, name: &[u8]) -> Result<(), AllocError>
+pub(crate) fn put_job_name(out: &mut Vec<u8>, number: u32, name: &[u8]) -> Result<(), AllocError>
     ensures { OnOk result (out.new.items ≡ out.old.items ++ html (job_name number name.now)) }
 {
     put_all(
@@ -311,7 +311,7 @@ fn put_job_name(out: &mut Vec<u8>, number: u32, name: &[u8]) -> Result<(), Alloc
 }
 
 /// Appends how a job stands. What helps may go behind it.
-fn put_job_state<'a>(
+pub(crate) fn put_job_state<'a>(
     out: &mut Vec<u8>,
     symbol: &'a str,
     state: &'a str,

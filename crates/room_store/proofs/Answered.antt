@@ -6,8 +6,8 @@ use Rattle.account_asks.specs.declared.ask.Which.TheVariants.{NotCompleted, Comp
 use Rattle.account_questions.specs.Pages.{most_shown}
 use Rattle.account_questions.specs.Stations.{printed_by}
 use Rattle.account_questions.specs.declared.question.About.{About}
-use Rattle.account_questions.specs.declared.question.About.TheVariants.{Left, Statement, Jobs, Ended, Grants, Waiting, Again, OwnerPage, StatementPage}
-use Rattle.account_questions.specs.declared.question.Question.TheVariants.{Ping, End, Devices, Accounts, Check, Account}
+use Rattle.account_questions.specs.declared.question.About.TheVariants.{Left, Statement, Jobs, Ended, Grants, Waiting, Again, OwnerPage, StatementPage, DeskPage}
+use Rattle.account_questions.specs.declared.question.Question.TheVariants.{Ping, End, Devices, DevicesPage, Accounts, Check, Account}
 use Rattle.account_questions.specs.Questions.{NeedsDevices}
 use Rattle.account_rules.specs.Devices.{Devices as DeviceMap}
 use Rattle.rows_statements.proofs.SoundReads.{sound_rows_are_read}
@@ -49,11 +49,18 @@ module _ (db : Database) (has : HasSchema db) (name : List ℕ) (sound : IsSound
     grants = read.by_month;
     ended = jobs_readable db has name sound Completed None;
   }
+  about_readable (DeskPage month) devices = record {
+    quota = record { jobs = read.counted; grants = read.added month };
+    waiting = jobs_readable db has name sound NotCompleted None;
+    ended = jobs_readable db has name sound Completed (Some most_shown);
+    grants = read.by_month;
+  }
 
 pub sound_rows_are_answered : SoundRowsAreAnswered
 sound_rows_are_answered Ping db has sound = tt
 sound_rows_are_answered End db has sound = tt
 sound_rows_are_answered Devices db has sound = (sound_rows_are_read.of_devices db has (sound.devices tt)).listed
+sound_rows_are_answered DevicesPage db has sound = (sound_rows_are_read.of_devices db has (sound.devices tt)).listed
 sound_rows_are_answered (Accounts behind) db has sound = sound.named tt
 sound_rows_are_answered (Check name) db has sound = tt
 sound_rows_are_answered (Account name about) db has sound =

@@ -13,9 +13,9 @@ use Rattle.account_questions.specs.Pages.{most_shown}
 use Rattle.account_questions.specs.Questions.{answer_about, answer_to, check_text, Concerns, ConcernsDevices, ConcernsNames, NeedsDevices}
 use Rattle.account_questions.specs.Stations.{printed_by}
 use Rattle.account_questions.specs.declared.question.About.{About}
-use Rattle.account_questions.specs.declared.question.About.TheVariants.{Left, Statement, Jobs, Ended, Grants, Waiting, Again, OwnerPage, StatementPage}
+use Rattle.account_questions.specs.declared.question.About.TheVariants.{Left, Statement, Jobs, Ended, Grants, Waiting, Again, OwnerPage, StatementPage, DeskPage}
 use Rattle.account_questions.specs.declared.question.Question.{Question}
-use Rattle.account_questions.specs.declared.question.Question.TheVariants.{Ping, End, Devices, Accounts, Check, Account}
+use Rattle.account_questions.specs.declared.question.Question.TheVariants.{Ping, End, Devices, DevicesPage, Accounts, Check, Account}
 use Rattle.account_replies.specs.Words.{word_text}
 use Rattle.account_rules.specs.Devices.{Devices as DeviceMap}
 use Rattle.account_rules.specs.declared.refusal.Word.TheVariants.{NoAccount}
@@ -87,6 +87,13 @@ pub record StatementPageIsReadable (name : List ℕ) (month : ℕ) (db : Databas
   pub grants : GrantsAreReadable name db
   pub ended : JobsAreReadable name Completed None db
 
+-- the quota, the jobs that have not ended, the last that have, and all grants
+pub record DeskPageIsReadable (name : List ℕ) (month : ℕ) (db : Database) : Type 0 where
+  pub quota : SumsAreReadable name month db
+  pub waiting : JobsAreReadable name NotCompleted None db
+  pub ended : JobsAreReadable name Completed (Some most_shown) db
+  pub grants : GrantsAreReadable name db
+
 -- of an account that is open
 abbrev pub AboutIsReadable : (name : List ℕ) (db : Database) → About → Type 0
 AboutIsReadable name db (Left month) = SumsAreReadable name month db
@@ -99,6 +106,7 @@ AboutIsReadable name db (Again device number) = AgainIsReadable name device numb
 AboutIsReadable name db (OwnerPage month outcome stays needs_password) = OwnerPageIsReadable name month db
 AboutIsReadable name db (StatementPage first last form drawn_up) =
     StatementPageIsReadable name last db
+AboutIsReadable name db (DeskPage month) = DeskPageIsReadable name month db
 
 -- of an account that is not open its own row alone is read
 pub record AccountIsAnswerable (name : List ℕ) (about : About) (db : Database) : Type 0 where
@@ -109,6 +117,7 @@ abbrev pub QuestionIsReadable : Question → Database → Type 0
 QuestionIsReadable Ping db = ⊤
 QuestionIsReadable End db = ⊤
 QuestionIsReadable Devices db = CanBeListed db
+QuestionIsReadable DevicesPage db = CanBeListed db
 QuestionIsReadable (Accounts behind) db = AreNamed db
 QuestionIsReadable (Check name) db = ⊤
 QuestionIsReadable (Account name about) db = AccountIsAnswerable name about db

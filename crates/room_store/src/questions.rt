@@ -16,7 +16,9 @@ ghost use Rattle.rows_tables.specs.Accounts.{Holds};
 ghost use Rattle.rows_tables.specs.Devices.{HoldsDevices};
 
 use crate::about_account::{tell_ended, tell_grants, tell_left, tell_statement, tell_unfinished};
-use crate::page_questions::{tell_owner_page, tell_statement_page};
+use crate::page_questions::{
+    tell_desk_page, tell_devices_page, tell_owner_page, tell_statement_page,
+};
 use crate::station_questions::{tell_again, tell_waiting};
 use account_machine::{Name, Reply, Success, Word};
 use account_questions::{About, Question, accounts_lines, check_line, devices_lines};
@@ -47,6 +49,7 @@ pub(crate) fn answer_question<S: Alter>(
     match asked {
         Question::Ping | Question::End => tell_ok(alloc, connection),
         Question::Devices => tell_devices(alloc, connection),
+        Question::DevicesPage => tell_devices_page(alloc, connection),
         Question::Accounts { behind } => tell_accounts(alloc, connection, behind),
         Question::Check { account } => tell_check(alloc, connection, account),
         Question::Account { account, about } => tell_account(alloc, connection, account, about),
@@ -189,5 +192,6 @@ fn tell_about<S: Alter>(
             form,
             drawn_up,
         } => tell_statement_page(alloc, connection, account, first, last, form, drawn_up),
+        About::DeskPage { month } => tell_desk_page(alloc, connection, account, month),
     }
 }

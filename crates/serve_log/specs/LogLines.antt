@@ -16,12 +16,13 @@ use Rattle.serve_log.specs.declared.door.Door.TheVariants as door_is
 use Rattle.serve_log.specs.declared.refusal.LineRefusal.{LineRefusal}
 use Rattle.serve_log.specs.declared.refusal.LineRefusal.TheVariants.{BadLine, NotYourDevice}
 
--- ---- the door
+-- ---- the door; at the desk an operator has a name
 
 abbrev pub door_word : Door → List ℕ
 door_word door_is.Clients = codes "clients"
 door_word door_is.Stations = codes "stations"
 door_word door_is.Operators = codes "operators"
+door_word (door_is.Desk operator) = codes "desk:" ++ operator
 
 -- ---- what was asked
 

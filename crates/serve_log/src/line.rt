@@ -4,7 +4,7 @@ ghost use Rattle.account_machine.specs.Events.{plain_event};
 ghost use Rattle.serve_log.specs.LogLines.{act_fields, beyond_text, event_fields, grant_fields, ipp_fields, line_text, month_text, rate_fields, request_fields, settle_fields, switch_fields};
 
 use crate::digits::{put_four_digits, put_number, put_two_digits};
-use crate::door::Door;
+use crate::door::{Door, put_door};
 use crate::ipp::{put_job, put_operation};
 use crate::outcome::put_outcome;
 use crate::request_job::job_of;
@@ -27,7 +27,7 @@ pub fn put_line<F>(
 {
     put_number(output, moment)?;
     output.extend_from_slice(b" ")?;
-    output.extend_from_slice(door.word())?;
+    put_door(output, door)?;
     output.extend_from_slice(b" ")?;
     put_event(output, event, told)?;
     output.extend_from_slice(b" ")?;

@@ -3,7 +3,7 @@ ghost use Rattle.std.specs.Prelude.{◌≡◌, ◌++◌, OnOk};
 ghost use Rattle.serve_log.specs.LogLines.{line_refusal_word, refused_line_text, refused_request_text, shown_path};
 
 use crate::digits::put_number;
-use crate::door::Door;
+use crate::door::{Door, put_door};
 use crate::outcome::put_shown;
 use std::alloc::AllocError;
 
@@ -45,7 +45,7 @@ pub(crate) fn put_refused_line(
 {
     put_number(output, moment)?;
     output.extend_from_slice(b" ")?;
-    output.extend_from_slice(door.word())?;
+    put_door(output, door)?;
     output.extend_from_slice(b" refused ")?;
     output.extend_from_slice(why.word())?;
     output.extend_from_slice(b"\n")

@@ -8,7 +8,7 @@ use Rattle.account_machine.specs.declared.event.Reply.{Reply}
 use Rattle.account_machine.specs.declared.verdict.Answered.{Answered}
 use Rattle.store_rounds.specs.declared.fault.StoreFault.{StoreFault}
 use Rattle.account_questions.specs.declared.question.Question.{Question}
-use Rattle.account_questions.specs.declared.question.Question.TheVariants.{Ping, End, Devices, Accounts, Check, Account}
+use Rattle.account_questions.specs.declared.question.Question.TheVariants.{Ping, End, Devices, DevicesPage, Accounts, Check, Account}
 use Rattle.serve_peers.specs.Journals.{log_lags_of, moment_of}
 use Rattle.serve_peers.specs.Turns.{AnswersNext, AppliesNext}
 use Rattle.serve_peers.specs.Lines.{IsEntryOf, IsRefusal, MayAsk, TakesLine, grammar_of, has_control, input_of, line_end, side_of}
@@ -133,6 +133,7 @@ pub only_ping : (question : Question) (log_lags : Bool) → IsTrue (has_to_warn 
 only_ping Ping log_lags warns = refl
 only_ping End log_lags warns = absurd (true≢false (sym warns))
 only_ping Devices log_lags warns = absurd (true≢false (sym warns))
+only_ping DevicesPage log_lags warns = absurd (true≢false (sym warns))
 only_ping (Accounts behind) log_lags warns = absurd (true≢false (sym warns))
 only_ping (Check account) log_lags warns = absurd (true≢false (sym warns))
 only_ping (Account account about) log_lags warns = absurd (true≢false (sym warns))

@@ -33,3 +33,4 @@ answer_to body told = if nat_lt (length body) header_length then refusal_text Ba
 abbrev pub last_text : (asked : Entry) (told : Result Answered StoreFault) → List ℕ
 last_text (entry_is.Message moment account body) told = answer_to body (reply_of told)
 last_text (entry_is.Line line) told = line_text told
+last_text (entry_is.Desk operator line) told = line_text told

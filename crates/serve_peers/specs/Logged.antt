@@ -6,7 +6,7 @@ use Rattle.input_lines.specs.declared.action.Action.{Action}
 use Rattle.serve_log.specs.LogLines.{line_text}
 use Rattle.serve_log.specs.Waits.{drafts_of, is_behind, logged_of, missed_of}
 use Rattle.serve_log.specs.declared.door.Door.{Door}
-use Rattle.serve_log.specs.declared.door.Door.TheVariants.{Clients, Stations, Operators}
+use Rattle.serve_log.specs.declared.door.Door.TheVariants.{Clients, Desk, Operators, Stations}
 use Rattle.serve_log.specs.declared.waiting.Waiting.{Waiting}
 use Rattle.serve_peers.specs.Entries.{event_of_entry, moment_at}
 use Rattle.serve_peers.specs.Tolds.{Round, Told, kept_in}
@@ -21,6 +21,7 @@ door_for action = if is_of_station action then Stations else Operators
 abbrev pub door_of : Entry → Door
 door_of (entry.Message moment account body) = Clients
 door_of (entry.Line line) = door_for line.action
+door_of (entry.Desk operator line) = Desk operator
 
 -- the line of what came and what it came to
 abbrev pub line_of : Told → List ℕ

@@ -26,11 +26,13 @@ needs_space body = nat_le header_length (length body) && brings_job (header_in b
 abbrev pub entry_needs_space : Entry → Bool
 entry_needs_space (entry.Message moment account body) = needs_space body
 entry_needs_space (entry.Line line) = false
+entry_needs_space (entry.Desk operator line) = false
 
 -- the bytes of a message, and of a line none
 abbrev pub length_of_entry : Entry → ℕ
 length_of_entry (entry.Message moment account body) = length body
 length_of_entry (entry.Line line) = 0
+length_of_entry (entry.Desk operator line) = 0
 
 -- the space that is kept
 abbrev pub spare_of : {S : Type 0} → Served S → Spare

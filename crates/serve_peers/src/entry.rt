@@ -24,6 +24,11 @@ pub enum Entry {
     },
     /// A line of a station or an operator.
     Line(Line),
+    /// A line that a form of the desk asks, and the operator who sent it.
+    Desk {
+        operator: Name,
+        line: Line,
+    },
 }
 
 // By hand, in the place of `#[derive(Drop)]`: the head of lib.rt says why.
@@ -36,6 +41,10 @@ impl Drop for Entry {
                 body: _,
             } => {}
             Entry::Line(_) => {}
+            Entry::Desk {
+                operator: _,
+                line: _,
+            } => {}
         }
     }
 }
@@ -47,17 +56,19 @@ impl Entry {
     {
         match self {
             Entry::Message { moment, .. } => *moment,
-            Entry::Line(line) => line.moment,
+            Entry::Line(line) | Entry::Desk { line, .. } => line.moment,
         }
     }
 
-    /// The door that the log names for it: that of clients, of stations or of operators.
+    /// The door that the log names for it: that of clients, of stations or of operators, or the desk
+    /// with the operator.
     pub(crate) fn door(&self) -> Door
         ensures { result ≡ door_of self.now }
     {
         match self {
             Entry::Message { .. } => Door::Clients,
             Entry::Line(line) => door_of(&line.action),
+            Entry::Desk { operator, .. } => Door::Desk(*operator),
         }
     }
 
@@ -67,7 +78,7 @@ impl Entry {
     {
         match self {
             Entry::Message { body, .. } => needs_space(body.as_slice()),
-            Entry::Line(_) => false,
+            Entry::Line(_) | Entry::Desk { .. } => false,
         }
     }
 
@@ -77,7 +88,7 @@ impl Entry {
     {
         match self {
             Entry::Message { body, .. } => body.len(),
-            Entry::Line(_) => 0,
+            Entry::Line(_) | Entry::Desk { .. } => 0,
         }
     }
 
@@ -116,7 +127,7 @@ impl Entry {
                 account: *account,
                 body: body.as_slice(),
             },
-            Entry::Line(line) => line.event(),
+            Entry::Line(line) | Entry::Desk { line, .. } => line.event(),
         }
     }
 }

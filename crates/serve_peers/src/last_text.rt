@@ -26,7 +26,7 @@ pub(crate) fn put_last(
 {
     match asked {
         Entry::Message { body, .. } => put_answer(output, body.as_slice(), reply_of(told)),
-        Entry::Line(_) => put_told(alloc, output, told),
+        Entry::Line(_) | Entry::Desk { .. } => put_told(alloc, output, told),
     }
 }
 

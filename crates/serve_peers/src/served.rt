@@ -7,7 +7,7 @@ ghost use Rattle.serve_peers.specs.Journals.{asked_of, ends_of, is_full_of, is_l
 ghost use Rattle.serve_peers.specs.Space.{lacks_space, spare_of};
 ghost use Rattle.serve_space.specs.Spares.{any_length, held_of, takes_of};
 ghost use Rattle.serve_peers.specs.Copies.{copy_in};
-ghost use Rattle.page_overview.specs.Pages.{IsPage};
+ghost use Rattle.page_overview.specs.Pages.{IsDesk, IsPage};
 ghost use Rattle.serve_peers.specs.Gathering.{asked_at, gathers};
 ghost use Rattle.serve_peers.specs.Overviews.{Gathers, gathered_of, shown_of, with_gathered};
 ghost use Rattle.serve_peers.specs.Keeping.{AsksNext, KeepsBackup, OnlyKeeps, backup_of};
@@ -142,7 +142,7 @@ impl<S: Alter> Served<S> {
     }
 
     /// Has the log tell that a door refused a line, and why.
-    pub(crate) fn log_refused_line(&mut self, door: Door, why: LineRefusal)
+    pub fn log_refused_line(&mut self, door: Door, why: LineRefusal)
         ensures { self.new ≡ self.old }
     {
         self.journal.refuse_line(self.moment, door, why);
@@ -451,6 +451,24 @@ impl<S: Alter> Served<S> {
             .gathered
             .shown
             .put_page(out, self.gathers(), front, behind)
+    }
+
+    /// Appends the desk's first page, by what was gathered last. It lists accounts as the print
+    /// room's page does.
+    pub fn put_overview_desk(
+        &self,
+        out: &mut Vec<u8>,
+        front: Option<Name>,
+        behind: Option<Name>,
+    ) -> Result<(), AllocError>
+        ensures { OnOk result ((page : List ℕ)
+            × IsDesk (shown_of self.now) (gathers (gathered_of self.now)) front behind page
+            × (out.new.items ≡ out.old.items ++ page)) }
+    {
+        self.background
+            .gathered
+            .shown
+            .put_desk(out, self.gathers(), front, behind)
     }
 
     /// Goes on with what is gathered for the print room's page: one account is read at most, where

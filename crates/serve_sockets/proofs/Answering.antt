@@ -43,21 +43,27 @@ use Rattle.serve_peers.specs.Space.{lacks_space, needs_space, with_space}
 use Rattle.serve_peers.specs.declared.served.Served.{Served}
 use Rattle.serve_peers.specs.declared.step.Next.{Next}
 use Rattle.serve_peers.specs.declared.step.Next.TheVariants.{Close}
+use Rattle.serve_desk.specs.Answers as desk
+use Rattle.serve_desk.specs.Operators.{operator_of}
+use Rattle.serve_desk.specs.ProofDesk.{Comes as DeskComes, IsApplied as IsAskedThere, IsLeft as IsLeftThere, IsLookedAt as IsLookedAtThere, comes as comes_there}
+use Rattle.serve_desk.specs.Questions.{question_of as question_there}
+use Rattle.serve_desk.specs.Requests.{asked as asks_there}
 use Rattle.serve_web.specs.Answers as web
 use Rattle.serve_web.specs.ProofPages.{Comes, IsApplied, IsLeft, IsLookedAt, comes}
 use Rattle.serve_web.specs.Questions.{question_of}
 use Rattle.serve_web.specs.Requests.{asked as asks_of}
-use Rattle.serve_sockets.proofs.Drives.{IsClean, IsServed, continues_clean, pages_chain, served_continues}
+use Rattle.serve_sockets.proofs.Drives.{IsClean, IsServed, continues_clean, desk_chain, pages_chain, served_continues}
 use Rattle.serve_sockets.proofs.Inquiring.{answered_so, grown_alone}
 use Rattle.serve_sockets.specs.Places.{StandAt}
 use Rattle.serve_sockets.specs.Requests.{AnswersCall, AnswersCalls}
 use Rattle.serve_sockets.specs.Questions.{AnswersBy}
 use Rattle.serve_sockets.specs.Lines.{AnswersLineCalls, AnswersLinesNow, TellsLinesNow, HasAnsweredLines, TellsAnswer}
+use Rattle.serve_sockets.specs.Desk.{AnswersDeskCalls, AnswersDeskNow, TellsDeskNow, TellsLine, TellsPage as TellsPageThere}
 use Rattle.serve_sockets.specs.Pages.{AnswersPageCalls, AnswersPagesNow, TellsPagesNow, TellsAct, TellsPage}
 use Rattle.serve_sockets.specs.EndToEnd.{IsAnswered, IsFresh, TellsNow, WasAnswered, log_of}
 use Rattle.serve_sockets.specs.Guests.{TakesTurn}
 use Rattle.serve_sockets.specs.declared.guest.Peer.{Peer}
-use Rattle.serve_sockets.specs.declared.guest.Peer.TheVariants.{Http, Last, Lines, Pages}
+use Rattle.serve_sockets.specs.declared.guest.Peer.TheVariants.{Desk, Http, Last, Lines, Pages}
 
 -- where it is this value, it has what that has
 ok_and : (T E : Type 0) (P : T → Type 0) (r : Result T E) (value : T) → r ≡ Ok value → P value → IsOkAnd r P
@@ -213,6 +219,38 @@ module _ {S : Type 0} (store : Ghosts S) (first last : Held S) where
   pages_within (call ∷ calls) least places journal (inr (inl (n, low, within, tells, later))) place there = pages_within calls n places journal later place there
   pages_within (call ∷ calls) least places journal (inr (inr (still, later))) place there = pages_within calls least places journal later place there
 
+  desk_longer : (calls : List Call) (least : ℕ) (places : List ℕ) (journal more : List Told) → AnswersDeskCalls store first last calls least places journal → AnswersDeskCalls store first last calls least places (journal ++ more)
+  desk_longer [] least places journal more is = is
+  desk_longer (call ∷ calls) least places journal more (inl (told, tells, place, rest, are, low, stands, later)) = inl (told, tells, place, rest, are, low, at_longer journal more place told stands, desk_longer calls (suc place) rest journal more later)
+  desk_longer (call ∷ calls) least places journal more (inr (inl (n, low, within, tells, later))) = inr (inl (n, low, (omega (arith, within, length-append journal more)), subst (λ (so_far : List Told). TellsPageThere store first last call so_far) (sym (take_within journal more n within)) tells, desk_longer calls n places journal more later))
+  desk_longer (call ∷ calls) least places journal more (inr (inr (still, later))) = inr (inr (still, desk_longer calls least places journal more later))
+
+  desk_lower : (calls : List Call) (least lower : ℕ) (places : List ℕ) (journal : List Told) → lower ≤ least → AnswersDeskCalls store first last calls least places journal → AnswersDeskCalls store first last calls lower places journal
+  desk_lower [] least lower places journal low is = is
+  desk_lower (call ∷ calls) least lower places journal low (inl (told, tells, place, rest, are, high, stands, later)) = inl (told, tells, place, rest, are, omega (arith, low, high), stands, later)
+  desk_lower (call ∷ calls) least lower places journal low (inr (inl (n, high, within, tells, later))) = inr (inl (n, omega (arith, low, high), within, tells, later))
+  desk_lower (call ∷ calls) least lower places journal low (inr (inr (still, later))) = inr (inr (still, desk_lower calls least lower places journal low later))
+
+  desk_then : (these more : List Call) (least : ℕ) (places its : List ℕ) (journal told : List Told) → least ≤ length journal → AnswersDeskCalls store first last these least places journal → AnswersDeskCalls store first last more (length journal) its (journal ++ told)
+      → AnswersDeskCalls store first last (these ++ more) least (places ++ its) (journal ++ told)
+  desk_then [] more least places its journal told low none is = subst (λ (at : List ℕ). AnswersDeskCalls store first last more least (at ++ its) (journal ++ told)) (sym none) (desk_lower more (length journal) least its (journal ++ told) low is)
+  desk_then (call ∷ these) more least places its journal told low (inl (one, tells, place, rest, are, high, stands, later)) is =
+      let within = slice_get_within journal place one stands in
+      inl (one, tells, place, rest ++ its, ap (λ (at : List ℕ). at ++ its) are, high, at_longer journal told place one stands, desk_then these more (suc place) rest its journal told (omega (arith, within)) later is)
+  desk_then (call ∷ these) more least places its journal told low (inr (inl (n, high, within, tells, later))) is =
+      inr (inl (n, high, (omega (arith, within, length-append journal told)), subst (λ (so_far : List Told). TellsPageThere store first last call so_far) (sym (take_within journal told n within)) tells, desk_then these more n places its journal told within later is))
+  desk_then (call ∷ these) more least places its journal told low (inr (inr (still, later))) is = inr (inr (still, desk_then these more least places its journal told low later is))
+
+  desk_within : (calls : List Call) (least : ℕ) (places : List ℕ) (journal : List Told) → AnswersDeskCalls store first last calls least places journal → (place : ℕ) → Contains places place → place < length journal
+  desk_within [] least places journal none place there = absurd (none_there place (subst (λ (at : List ℕ). Contains at place) none there))
+  desk_within (call ∷ calls) least places journal (inl (told, tells, at, rest, are, low, stands, later)) place there =
+      elim (Contains-cons_cases at place rest (subst (λ (all : List ℕ). Contains all place) are there)) [
+        | inl same ↦ subst (λ (n : ℕ). n < length journal) same (slice_get_within journal at told stands)
+        | inr behind ↦ desk_within calls (suc at) rest journal later place behind
+      ]
+  desk_within (call ∷ calls) least places journal (inr (inl (n, low, within, tells, later))) place there = desk_within calls n places journal later place there
+  desk_within (call ∷ calls) least places journal (inr (inr (still, later))) place there = desk_within calls least places journal later place there
+
   -- what was told in one turn
   lines_loose : (shares : Bool) (side : Side) (calls : List LineCall) (least : ℕ) (places : List ℕ) (journal : List Told) → AnswersLinesNow store first last shares side calls least places journal → AnswersLineCalls store first last side calls least places journal
   lines_loose shares side [] least places journal is = is
@@ -226,11 +264,18 @@ module _ {S : Type 0} (store : Ghosts S) (first last : Held S) where
   pages_loose shares (call ∷ calls) least places journal (inr (inl (alone, within, tells, later))) = inr (inl (least, omega arith, within, tells, pages_loose shares calls least places journal later))
   pages_loose shares (call ∷ calls) least places journal (inr (inr (still, later))) = inr (inr (still, pages_loose shares calls least places journal later))
 
+  desk_loose : (shares : Bool) (calls : List Call) (least : ℕ) (places : List ℕ) (journal : List Told) → AnswersDeskNow store first last shares calls least places journal → AnswersDeskCalls store first last calls least places journal
+  desk_loose shares [] least places journal is = is
+  desk_loose shares (call ∷ calls) least places journal (inl (told, tells, rest, are, stands, later)) = inl (told, tells, least, rest, are, omega arith, stands, desk_loose shares calls (suc least) rest journal later)
+  desk_loose shares (call ∷ calls) least places journal (inr (inl (alone, within, tells, later))) = inr (inl (least, omega arith, within, tells, desk_loose shares calls least places journal later))
+  desk_loose shares (call ∷ calls) least places journal (inr (inr (still, later))) = inr (inr (still, desk_loose shares calls least places journal later))
+
   -- ---- what was told stays told
 
   pub answered_longer : (peer : Peer) (places : List ℕ) (journal more : List Told) → IsAnswered store first last peer places journal → IsAnswered store first last peer places (journal ++ more)
   answered_longer (Http peer) places journal more is = record { served = is.served; mine = is.mine; answered = is.answered; stand = stand_longer 0 places is.mine journal more is.stand }
   answered_longer (Pages peer) places journal more is = record { served = is.served; answered = pages_longer (calls_of peer) 0 places journal more is.answered }
+  answered_longer (Desk peer) places journal more is = record { served = is.served; answered = desk_longer (calls_of peer) 0 places journal more is.answered }
   answered_longer (Lines peer) places journal more is = record { calls = is.calls; lines = is.lines; came = is.came; goes = is.goes; answered = lines_longer (side_of (lines_of peer)) is.calls 0 places journal more is.answered }
   answered_longer (Last peer) places journal more (inl is) = inl (record { told = is.told; stands = stand_longer 0 places (is.told ∷ []) journal more is.stands; went = is.went; text = is.text })
   answered_longer (Last peer) places journal more (inr is) = inr is
@@ -238,18 +283,21 @@ module _ {S : Type 0} (store : Ghosts S) (first last : Held S) where
   pub was_longer : (peer : Peer) (places : List ℕ) (journal more : List Told) → WasAnswered store first last peer places journal → WasAnswered store first last peer places (journal ++ more)
   was_longer (Http peer) places journal more is = answered_longer (Http peer) places journal more is
   was_longer (Pages peer) places journal more is = answered_longer (Pages peer) places journal more is
+  was_longer (Desk peer) places journal more is = answered_longer (Desk peer) places journal more is
   was_longer (Lines peer) places journal more (waits, is) = (waits, record { calls = is.calls; lines = is.lines; came = is.came; goes = is.goes; answered = lines_longer (side_of (lines_of peer)) is.calls 0 places journal more is.answered })
   was_longer (Last peer) places journal more is = answered_longer (Last peer) places journal more is
 
   pub was_answered : (peer : Peer) (places : List ℕ) (journal : List Told) → IsAnswered store first last peer places journal → WasAnswered store first last peer places journal
   was_answered (Http peer) places journal is = is
   was_answered (Pages peer) places journal is = is
+  was_answered (Desk peer) places journal is = is
   was_answered (Lines peer) places journal is = (output_of (lines_of peer), is)
   was_answered (Last peer) places journal is = is
 
   pub answered_within : (peer : Peer) (places : List ℕ) (journal : List Told) → IsAnswered store first last peer places journal → (place : ℕ) → Contains places place → place < length journal
   answered_within (Http peer) places journal is = stand_within 0 places is.mine journal is.stand
   answered_within (Pages peer) places journal is = pages_within (calls_of peer) 0 places journal is.answered
+  answered_within (Desk peer) places journal is = desk_within (calls_of peer) 0 places journal is.answered
   answered_within (Lines peer) places journal is = lines_within (side_of (lines_of peer)) is.calls 0 places journal is.answered
   answered_within (Last peer) places journal (inl is) = stand_within 0 places (is.told ∷ []) journal is.stands
   answered_within (Last peer) places journal (inr is) = subst (λ (at : List ℕ). (place : ℕ) → Contains at place → place < length journal) (sym is.nowhere) (λ place there. absurd (none_there place there))
@@ -452,6 +500,96 @@ module _ {S : Type 0} (store : Ghosts S) (before : Served S) (fresh : IsFresh be
             subst (λ (at : List ℕ). AnswersPagesNow store (store_of before) last shares (call ∷ calls) (length journal) at (journal ++ applied (first.0.more ++ rest.0.more))) at (subst (λ (told : List Told). AnswersPagesNow store (store_of before) last shares (call ∷ calls) (length journal) (places_from (length journal) (applied first.0.more) ++ places_from (length mid) (applied rest.0.more)) told) log all),
       )
 
+  -- ---- an operator at the desk
+
+  -- one request is told, at the end of the journal
+  abbrev DeskTold : (shares : Bool) (call : Call) (old new : Served S) → Type 0
+  DeskTold shares call old new = (c : Continues store old new)
+      × ((journal : List Told) → IsJournal journal old → (calls : List Call) (its : List ℕ) (told : List Told) → AnswersDeskNow store (store_of before) last shares calls (length (journal ++ applied c.more)) its ((journal ++ applied c.more) ++ told)
+      → AnswersDeskNow store (store_of before) last shares (call ∷ calls) (length journal) (places_from (length journal) (applied c.more) ++ its) ((journal ++ applied c.more) ++ told))
+
+  -- nothing was applied: the rest stands where it did
+  none_there_shown : (shares : Bool) (calls : List Call) (journal told : List Told) (its : List ℕ) → AnswersDeskNow store (store_of before) last shares calls (length (journal ++ [])) its ((journal ++ []) ++ told) → AnswersDeskNow store (store_of before) last shares calls (length journal) its ((journal ++ []) ++ told)
+  none_there_shown shares calls journal told its later = subst (λ (n : ℕ). AnswersDeskNow store (store_of before) last shares calls n its ((journal ++ []) ++ told)) (ap length (append-nil journal)) later
+
+  line_there_told : (shares : Bool) (call : Call) (old new : Served S) → IsAskedThere store (operator_of call.0) (asks_there call.0) old call.0 call.1 new → DeskTold shares call old new
+  unfolding one_more
+  line_there_told shares call old new is = (
+    one_more store (entry.Desk is.operator is.event.line) is.event.applies.told old new is.event.applies.next,
+    λ journal is_journal calls its told later.
+        let one : Told = (entry.Desk is.operator is.event.line, is.event.applies.told) in
+        let long : length (journal ++ one ∷ []) ≡ suc (length journal) = omega (arith, length-append journal (one ∷ [])) in
+        let stands : slice_get ((journal ++ one ∷ []) ++ told) (length journal) ≡ Some one = at_longer (journal ++ one ∷ []) told (length journal) one (at_seam journal [] one) in
+        let tells : TellsLine call one = record {
+          operator = is.operator;
+          named = is.named;
+          wants = is.wanted;
+          moment = moment_of old;
+          line = is.event.line;
+          read = is.event.read;
+          asked = refl;
+          deed = is.event.deed;
+          does = is.event.does;
+          page = is.event.applies.page;
+          of_line = is.event.applies.of_line;
+          by = is.event.applies.by;
+          came = is.event.applies.came;
+          tells = is.event.applies.tells;
+        } in
+        inl (one, tells, its, refl, stands, subst (λ (n : ℕ). AnswersDeskNow store (store_of before) last shares calls n its ((journal ++ one ∷ []) ++ told)) long later),
+  )
+
+  shown_there_told : (shares : Bool) (call : Call) (old new : Served S) → IsServed store before old → (HasCleanDisk (state store last) → IsClean store new) → shares_of old ≡ shares → IsLookedAtThere store (asks_there call.0) old call.0 call.1 new → DeskTold shares call old new
+  unfolding looked
+  shown_there_told shares call old new served clean same is = (
+    looked store (question_there (moment_of old) is.asks) is.shows.told old new is.shows.next,
+    λ journal is_journal calls its told later.
+        let so_far : take (length journal) ((journal ++ []) ++ told) ≡ journal_of old = take_within (journal ++ []) told (length journal) (omega (arith, ap length (append-nil journal))) ∙ ap (λ x. take (length journal) x) (append-nil journal) ∙ take-length journal ∙ is_journal is.shows.next.alone in
+        inr (inl (
+          sym same ∙ is.shows.next.alone,
+          omega (arith, length-append (journal ++ []) told, ap length (append-nil journal)),
+          record {
+            moment = moment_of old;
+            question = question_there (moment_of old) is.asks;
+            wants = ok_and _ _ _ (asks_there call.0) is.asks is.wanted refl;
+            told = is.shows.told;
+            shows = is.shows.tells;
+            answers = subst (λ (log : List Told). AnswersBy store (store_of before) last log (question_there (moment_of old) is.asks) is.shows.told) (sym so_far) (answered_so store before fresh last (question_there (moment_of old) is.asks) is.shows.told old new served clean is.shows.next);
+          },
+          none_there_shown shares calls journal told its later,
+        )),
+  )
+
+  left_there_told : (shares : Bool) (call : Call) (old new : Served S) → IsLeftThere store (asks_there call.0) old call.0 call.1 new → DeskTold shares call old new
+  left_there_told shares call old new is = subst (λ (served : Served S). DeskTold shares call old served) (sym is.1.1) (gathered_only store old is.1.0, λ journal is_journal calls its told later. inr (inr (is.0, none_there_shown shares calls journal told its later)))
+
+  desk_told : (shares : Bool) (call : Call) (old new : Served S) → IsServed store before old → (HasCleanDisk (state store last) → IsClean store new) → shares_of old ≡ shares → DeskComes store (operator_of call.0) (asks_there call.0) old call.0 call.1 new → DeskTold shares call old new
+  desk_told shares call old new served clean same (inl is) = line_there_told shares call old new is
+  desk_told shares call old new served clean same (inr (inl is)) = shown_there_told shares call old new served clean same is
+  desk_told shares call old new served clean same (inr (inr is)) = left_there_told shares call old new is
+
+  abbrev DeskTolds : (shares : Bool) (calls : List Call) (old new : Served S) → Type 0
+  DeskTolds shares calls old new = (c : Continues store old new)
+      × ((journal : List Told) → IsJournal journal old → AnswersDeskNow store (store_of before) last shares calls (length journal) (places_from (length journal) (applied c.more)) (journal ++ applied c.more))
+
+  pub desk_tolds : (shares : Bool) (calls : List Call) (old new : Served S) → IsServed store before old → (HasCleanDisk (state store last) → IsClean store new) → shares_of old ≡ shares → Chain (desk.Answers store) old calls new → DeskTolds shares calls old new
+  unfolding stays then
+  desk_tolds shares [] old new served clean same is = subst (λ (it : Served S). DeskTolds shares [] old it) (sym is) (stays store old, λ journal is_journal. refl)
+  desk_tolds shares (call ∷ calls) old new served clean same is =
+      let rest_on : Continues store is.0 new = desk_chain store calls is.0 new is.2 in
+      let first = desk_told shares call old is.0 served (λ honest. continues_clean store is.0 new rest_on (clean honest)) same (comes_there store old call.0 call.1 is.0 is.1) in
+      let rest = desk_tolds shares calls is.0 new (served_continues store before old is.0 served first.0) clean (first.0.shares ∙ same) is.2 in (
+        then store old is.0 new first.0 rest.0,
+        λ journal is_journal.
+            let mid : List Told = journal ++ applied first.0.more in
+            let later = rest.1 mid (journal_then journal old is.0 first.0 is_journal) in
+            let all = first.1 journal is_journal calls (places_from (length mid) (applied rest.0.more)) (applied rest.0.more) later in
+            let log : mid ++ applied rest.0.more ≡ journal ++ applied (first.0.more ++ rest.0.more) = append_assoc journal (applied first.0.more) (applied rest.0.more) ∙ ap (λ x. journal ++ x) (sym (applied_then first.0.more rest.0.more)) in
+            let at : places_from (length journal) (applied first.0.more) ++ places_from (length mid) (applied rest.0.more) ≡ places_from (length journal) (applied (first.0.more ++ rest.0.more)) =
+            places_then journal (applied first.0.more) (applied rest.0.more) ∙ ap (λ (told : List Told). places_from (length journal) told) (sym (applied_then first.0.more rest.0.more)) in
+            subst (λ (at : List ℕ). AnswersDeskNow store (store_of before) last shares (call ∷ calls) (length journal) at (journal ++ applied (first.0.more ++ rest.0.more))) at (subst (λ (told : List Told). AnswersDeskNow store (store_of before) last shares (call ∷ calls) (length journal) (places_from (length journal) (applied first.0.more) ++ places_from (length mid) (applied rest.0.more)) told) log all),
+      )
+
   -- ---- a turn
 
   -- Who was answered is, with what this turn applies; but what waits to go may be lost where that ends
@@ -487,6 +625,20 @@ module _ {S : Type 0} (store : Ghosts S) (before : Served S) (fresh : IsFresh be
               served = always_served (connection_of now);
               answered = subst (λ (calls : List Call). AnswersPageCalls store (store_of before) last calls 0 (places ++ places_from (length journal) more) (journal ++ more)) (sym is.1)
                   (pages_then store (store_of before) last (calls_of was) is.0 0 places (places_from (length journal) more) journal more (omega arith) had.answered (pages_loose store (store_of before) last (shares_of old) is.0 (length journal) (places_from (length journal) more) (journal ++ more) (told.1 journal is_journal)));
+            } in
+            ((λ goes. now_has), now_has),
+      )
+
+  desk_answered : (next : Next) (was now : HttpPeer) (old new : Served S) → IsServed store before old → (HasCleanDisk (state store last) → IsClean store new) → http.CallsService (desk.Answers store) was now old new → Answered next (Desk was) (Desk now) old new
+  desk_answered next was now old new served clean is =
+      let told = desk_tolds (shares_of old) is.0 old new served clean refl is.2 in
+      let more : List Told = applied told.0.more in (
+        told.0,
+        λ places journal is_journal had.
+            let now_has : IsAnswered store (store_of before) last (Desk now) (places ++ places_from (length journal) more) (journal ++ more) = record {
+              served = always_served (connection_of now);
+              answered = subst (λ (calls : List Call). AnswersDeskCalls store (store_of before) last calls 0 (places ++ places_from (length journal) more) (journal ++ more)) (sym is.1)
+                  (desk_then store (store_of before) last (calls_of was) is.0 0 places (places_from (length journal) more) journal more (omega arith) had.answered (desk_loose store (store_of before) last (shares_of old) is.0 (length journal) (places_from (length journal) more) (journal ++ more) (told.1 journal is_journal)));
             } in
             ((λ goes. now_has), now_has),
       )
@@ -559,14 +711,23 @@ module _ {S : Type 0} (store : Ghosts S) (before : Served S) (fresh : IsFresh be
   pub turn_answered : (ends ends2 : Ends) (next : Next) (was now : Peer) (old new : Served S) → IsServed store before old → (HasCleanDisk (state store last) → IsClean store new) → TakesTurn store ends ends2 next was now old new → Answered next was now old new
   turn_answered ends ends2 next (Http was) (Http now) old new served clean is = http_answered next was now old new is.0
   turn_answered ends ends2 next (Pages was) (Pages now) old new served clean is = pages_answered next was now old new served clean is.0
+  turn_answered ends ends2 next (Desk was) (Desk now) old new served clean is = desk_answered next was now old new served clean is.0
   turn_answered ends ends2 next (Lines was) (Lines now) old new served clean is = line_peer_answered ends ends2 next was now old new served clean is
   turn_answered ends ends2 next (Last was) (Last now) old new served clean is = last_answered ends ends2 next was now old new is.0 is.1
   turn_answered ends ends2 next (Http was) (Pages now) old new served clean is = absurd is
+  turn_answered ends ends2 next (Http was) (Desk now) old new served clean is = absurd is
+  turn_answered ends ends2 next (Desk was) (Pages now) old new served clean is = absurd is
   turn_answered ends ends2 next (Pages was) (Http now) old new served clean is = absurd is
+  turn_answered ends ends2 next (Desk was) (Http now) old new served clean is = absurd is
+  turn_answered ends ends2 next (Pages was) (Desk now) old new served clean is = absurd is
   turn_answered ends ends2 next (Pages was) (Lines now) old new served clean is = absurd is
+  turn_answered ends ends2 next (Desk was) (Lines now) old new served clean is = absurd is
   turn_answered ends ends2 next (Pages was) (Last now) old new served clean is = absurd is
+  turn_answered ends ends2 next (Desk was) (Last now) old new served clean is = absurd is
   turn_answered ends ends2 next (Lines was) (Pages now) old new served clean is = absurd is
+  turn_answered ends ends2 next (Lines was) (Desk now) old new served clean is = absurd is
   turn_answered ends ends2 next (Last was) (Pages now) old new served clean is = absurd is
+  turn_answered ends ends2 next (Last was) (Desk now) old new served clean is = absurd is
   turn_answered ends ends2 next (Http was) (Lines now) old new served clean is = absurd is
   turn_answered ends ends2 next (Http was) (Last now) old new served clean is = absurd is
   turn_answered ends ends2 next (Lines was) (Http now) old new served clean is = absurd is
@@ -627,14 +788,32 @@ module _ {S : Type 0} (store : Ghosts S) (before : Served S) (fresh : IsFresh be
         answered = subst (λ (log : List Told). AnswersPagesNow store (store_of before) last shares is.0 (length (log_of shares old)) its log) (sym (log_grown shares old new told.0 same)) (told.1 (log_of shares old) (log_is shares old same));
       }
 
+  desk_now : (shares : Bool) (was now : HttpPeer) (old new : Served S) → IsServed store before old → (HasCleanDisk (state store last) → IsClean store new) → shares_of old ≡ shares → http.CallsService (desk.Answers store) was now old new → TellsDeskNow store (store_of before) last shares was now (length (log_of shares old)) (log_of shares new)
+  desk_now shares was now old new served clean same is =
+      let told = desk_tolds shares is.0 old new served clean same is.2 in
+      let its : List ℕ = places_from (length (log_of shares old)) (applied told.0.more) in
+      record {
+        calls = is.0;
+        more = is.1;
+        places = its;
+        answered = subst (λ (log : List Told). AnswersDeskNow store (store_of before) last shares is.0 (length (log_of shares old)) its log) (sym (log_grown shares old new told.0 same)) (told.1 (log_of shares old) (log_is shares old same));
+      }
+
   pub turn_tells : (shares : Bool) (ends ends2 : Ends) (next : Next) (was now : Peer) (old new : Served S) → IsServed store before old → (HasCleanDisk (state store last) → IsClean store new) → shares_of old ≡ shares → TakesTurn store ends ends2 next was now old new → TellsNow store (store_of before) last shares (next ≢ Close) was now old new
   turn_tells shares ends ends2 next (Lines was) (Lines now) old new served clean same is = lines_now shares ends ends2 next was now old new served clean same is
   turn_tells shares ends ends2 next (Pages was) (Pages now) old new served clean same is = pages_now shares was now old new served clean same is.0
+  turn_tells shares ends ends2 next (Desk was) (Desk now) old new served clean same is = desk_now shares was now old new served clean same is.0
   turn_tells shares ends ends2 next (Http was) now old new served clean same is = tt
   turn_tells shares ends ends2 next (Last was) now old new served clean same is = tt
   turn_tells shares ends ends2 next (Lines was) (Http now) old new served clean same is = tt
   turn_tells shares ends ends2 next (Lines was) (Pages now) old new served clean same is = tt
+  turn_tells shares ends ends2 next (Lines was) (Desk now) old new served clean same is = tt
   turn_tells shares ends ends2 next (Lines was) (Last now) old new served clean same is = tt
   turn_tells shares ends ends2 next (Pages was) (Http now) old new served clean same is = tt
+  turn_tells shares ends ends2 next (Desk was) (Http now) old new served clean same is = tt
+  turn_tells shares ends ends2 next (Pages was) (Desk now) old new served clean same is = tt
+  turn_tells shares ends ends2 next (Desk was) (Pages now) old new served clean same is = tt
   turn_tells shares ends ends2 next (Pages was) (Lines now) old new served clean same is = tt
+  turn_tells shares ends ends2 next (Desk was) (Lines now) old new served clean same is = tt
   turn_tells shares ends ends2 next (Pages was) (Last now) old new served clean same is = tt
+  turn_tells shares ends ends2 next (Desk was) (Last now) old new served clean same is = tt

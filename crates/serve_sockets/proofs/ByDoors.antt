@@ -20,7 +20,7 @@ use Rattle.serve_sockets.specs.declared.doors.Speech.{Speech}
 use Rattle.serve_sockets.specs.declared.doors.Speech.TheVariants as speech_is
 use Rattle.serve_sockets.specs.declared.guest.Guest.{Guest}
 use Rattle.serve_sockets.specs.declared.guest.Peer.{Peer}
-use Rattle.serve_sockets.specs.declared.guest.Peer.TheVariants.{Http, Last, Lines, Pages}
+use Rattle.serve_sockets.specs.declared.guest.Peer.TheVariants.{Desk, Http, Last, Lines, Pages}
 
 -- ---- one guest
 
@@ -30,28 +30,39 @@ keeps_one doors was now door speaks (speech, at, is) = (speech, ap (λ place. sl
 came_speaks : (speech : Speech) (peer : Peer) → CameBy speech peer → Speaks peer speech
 came_speaks speech_is.Http (Http peer) is = tt
 came_speaks speech_is.Pages (Pages peer) is = tt
+came_speaks speech_is.Desk (Desk peer) is = tt
 came_speaks (speech_is.Lines side) (Lines peer) is = is.side
 came_speaks _ _ is = absurd is
 
 http_speaks : (before after : HttpPeer) (speech : Speech) → Speaks (Http before) speech → Speaks (Http after) speech
 http_speaks before after speech_is.Http is = tt
 http_speaks before after speech_is.Pages is = absurd is
+http_speaks before after speech_is.Desk is = absurd is
 http_speaks before after (speech_is.Lines side) is = absurd is
+
+desk_speaks : (before after : HttpPeer) (speech : Speech) → Speaks (Desk before) speech → Speaks (Desk after) speech
+desk_speaks before after speech_is.Http is = absurd is
+desk_speaks before after speech_is.Pages is = absurd is
+desk_speaks before after speech_is.Desk is = tt
+desk_speaks before after (speech_is.Lines side) is = absurd is
 
 pages_speak : (before after : HttpPeer) (speech : Speech) → Speaks (Pages before) speech → Speaks (Pages after) speech
 pages_speak before after speech_is.Http is = absurd is
 pages_speak before after speech_is.Pages is = tt
+pages_speak before after speech_is.Desk is = absurd is
 pages_speak before after (speech_is.Lines side) is = absurd is
 
 lines_speak : (before after : LinePeer) (speech : Speech) → side_of (lines.lines_of after) ≡ side_of (lines.lines_of before) → Speaks (Lines before) speech → Speaks (Lines after) speech
 lines_speak before after speech_is.Http same is = absurd is
 lines_speak before after speech_is.Pages same is = absurd is
+lines_speak before after speech_is.Desk same is = absurd is
 lines_speak before after (speech_is.Lines side) same is = same ∙ is
 
 refused_speaks : (begun : Peer) (speech : Speech) → IsRefusedForSpace begun → Speaks begun speech
 refused_speaks (Last peer) speech is = tt
 refused_speaks (Http peer) speech is = absurd is
 refused_speaks (Pages peer) speech is = absurd is
+refused_speaks (Desk peer) speech is = absurd is
 refused_speaks (Lines peer) speech is = absurd is
 
 stays_speak : (most : ℕ) (before begun : Peer) (speech : Speech) → StaysOrIsRefused most before begun → Speaks before speech → Speaks begun speech
@@ -105,26 +116,36 @@ module _ {S : Type 0} (store : Ghosts S) where
   turn_speaks : (ends ends2 : Ends) (next : Next) (before after : Peer) (old new : Served S) → TakesTurn store ends ends2 next before after old new → (speech : Speech) → Speaks before speech → Speaks after speech
   turn_speaks ends ends2 next (Http before) (Http after) old new takes speech is = http_speaks before after speech is
   turn_speaks ends ends2 next (Pages before) (Pages after) old new takes speech is = pages_speak before after speech is
+  turn_speaks ends ends2 next (Desk before) (Desk after) old new takes speech is = desk_speaks before after speech is
   turn_speaks ends ends2 next (Lines before) (Lines after) old new (inl drops) speech is = lines_speak before after speech (ap side_of drops.3) is
   turn_speaks ends ends2 next (Lines before) (Lines after) old new (inr takes) speech is = lines_speak before after speech takes.1.side is
   turn_speaks ends ends2 next (Last before) (Last after) old new takes speech is = tt
   turn_speaks ends ends2 next (Http before) (Pages after) old new takes speech is = absurd takes
+  turn_speaks ends ends2 next (Http before) (Desk after) old new takes speech is = absurd takes
+  turn_speaks ends ends2 next (Desk before) (Pages after) old new takes speech is = absurd takes
   turn_speaks ends ends2 next (Http before) (Lines after) old new takes speech is = absurd takes
   turn_speaks ends ends2 next (Http before) (Last after) old new takes speech is = absurd takes
   turn_speaks ends ends2 next (Pages before) (Http after) old new takes speech is = absurd takes
+  turn_speaks ends ends2 next (Desk before) (Http after) old new takes speech is = absurd takes
+  turn_speaks ends ends2 next (Pages before) (Desk after) old new takes speech is = absurd takes
   turn_speaks ends ends2 next (Pages before) (Lines after) old new takes speech is = absurd takes
+  turn_speaks ends ends2 next (Desk before) (Lines after) old new takes speech is = absurd takes
   turn_speaks ends ends2 next (Pages before) (Last after) old new takes speech is = absurd takes
+  turn_speaks ends ends2 next (Desk before) (Last after) old new takes speech is = absurd takes
   turn_speaks ends ends2 next (Lines before) (Http after) old new takes speech is = absurd takes
   turn_speaks ends ends2 next (Lines before) (Pages after) old new takes speech is = absurd takes
+  turn_speaks ends ends2 next (Lines before) (Desk after) old new takes speech is = absurd takes
   turn_speaks ends ends2 next (Lines before) (Last after) old new takes speech is = absurd takes
   turn_speaks ends ends2 next (Last before) (Http after) old new takes speech is = absurd takes
   turn_speaks ends ends2 next (Last before) (Pages after) old new takes speech is = absurd takes
+  turn_speaks ends ends2 next (Last before) (Desk after) old new takes speech is = absurd takes
   turn_speaks ends ends2 next (Last before) (Lines after) old new takes speech is = absurd takes
 
   again_speaks : (lost : Bool) (asked : List Entry) (before begun : Peer) (old mid : Served S) → AsksAgain store lost asked before begun old mid → (speech : Speech) → Speaks before speech → Speaks begun speech
   again_speaks true (entry ∷ more) before (Last begun) old mid again speech is = tt
   again_speaks true (entry ∷ more) before (Http begun) old mid again speech is = absurd again
   again_speaks true (entry ∷ more) before (Pages begun) old mid again speech is = absurd again
+  again_speaks true (entry ∷ more) before (Desk begun) old mid again speech is = absurd again
   again_speaks true (entry ∷ more) before (Lines begun) old mid again speech is = absurd again
   again_speaks true [] before begun old mid again speech is = stays_speak _ before begun speech again.0 is
   again_speaks false asked before begun old mid again speech is = stays_speak _ before begun speech again.0 is

@@ -22,6 +22,8 @@ use Rattle.serve_peers.specs.declared.served.Served.{Served}
 use Rattle.serve_peers.specs.declared.step.Next.{Next}
 use Rattle.serve_peers.specs.declared.step.Turn.{Turn}
 use Rattle.serve_peers.proofs.Services.{calls_continue}
+use Rattle.serve_desk.specs.Answers.{Answers as AnswersAtDesk}
+use Rattle.serve_desk.specs.ProofDesk.{answers_continue as continue_at_desk}
 use Rattle.serve_web.specs.Answers.{Answers}
 use Rattle.serve_web.specs.ProofPages.{answers_continue}
 use Rattle.serve_sockets.specs.Guests.{AsksAgain, TakesTurn, Turns, in_round, of_socket}
@@ -29,7 +31,7 @@ use Rattle.serve_sockets.specs.Halls.{Ask, Begin, BeginsRound, Does, DoesAll, Dr
 use Rattle.serve_sockets.specs.declared.doors.Speech.{Speech}
 use Rattle.serve_sockets.specs.declared.guest.Guest.{Guest}
 use Rattle.serve_sockets.specs.declared.guest.Peer.{Peer}
-use Rattle.serve_sockets.specs.declared.guest.Peer.TheVariants.{Http, Last, Lines, Pages}
+use Rattle.serve_sockets.specs.declared.guest.Peer.TheVariants.{Desk, Http, Last, Lines, Pages}
 
 module _ {S : Type 0} (store : Ghosts S) where
   -- ---- a turn
@@ -44,17 +46,29 @@ module _ {S : Type 0} (store : Ghosts S) where
   pub pages_chain : (calls : List Call) (old new : Served S) → Chain (Answers store) old calls new → Continues store old new
   pages_chain calls old new is = calls_continue store (Answers store) (λ (served : Served S). served) (answers_continue store) calls old new is
 
+  pub desk_chain : (calls : List Call) (old new : Served S) → Chain (AnswersAtDesk store) old calls new → Continues store old new
+  desk_chain calls old new is = calls_continue store (AnswersAtDesk store) (λ (served : Served S). served) (continue_at_desk store) calls old new is
+
   pub turn_continues : (ends ends2 : Ends) (next : Next) (before after : Peer) (old new : Served S) → TakesTurn store ends ends2 next before after old new → Continues store old new
   turn_continues ends ends2 next (Http before) (Http after) old new is = chain store is.0.0 old new is.0.2
   turn_continues ends ends2 next (Pages before) (Pages after) old new is = pages_chain is.0.0 old new is.0.2
+  turn_continues ends ends2 next (Desk before) (Desk after) old new is = desk_chain is.0.0 old new is.0.2
   turn_continues ends ends2 next (Lines before) (Lines after) old new is = lines_continue ends ends2 next before after old new is
   turn_continues ends ends2 next (Last before) (Last after) old new is = subst (λ (served : Served S). Continues store old served) (sym is.1) (stays store old)
   turn_continues ends ends2 next (Http before) (Pages after) old new is = absurd is
+  turn_continues ends ends2 next (Http before) (Desk after) old new is = absurd is
+  turn_continues ends ends2 next (Desk before) (Pages after) old new is = absurd is
   turn_continues ends ends2 next (Pages before) (Http after) old new is = absurd is
+  turn_continues ends ends2 next (Desk before) (Http after) old new is = absurd is
+  turn_continues ends ends2 next (Pages before) (Desk after) old new is = absurd is
   turn_continues ends ends2 next (Pages before) (Lines after) old new is = absurd is
+  turn_continues ends ends2 next (Desk before) (Lines after) old new is = absurd is
   turn_continues ends ends2 next (Pages before) (Last after) old new is = absurd is
+  turn_continues ends ends2 next (Desk before) (Last after) old new is = absurd is
   turn_continues ends ends2 next (Lines before) (Pages after) old new is = absurd is
+  turn_continues ends ends2 next (Lines before) (Desk after) old new is = absurd is
   turn_continues ends ends2 next (Last before) (Pages after) old new is = absurd is
+  turn_continues ends ends2 next (Last before) (Desk after) old new is = absurd is
   turn_continues ends ends2 next (Http before) (Lines after) old new is = absurd is
   turn_continues ends ends2 next (Http before) (Last after) old new is = absurd is
   turn_continues ends ends2 next (Lines before) (Http after) old new is = absurd is
@@ -66,6 +80,7 @@ module _ {S : Type 0} (store : Ghosts S) where
   again_continues true (entry ∷ more) before (Last begun) old mid is = one_more store entry is.told old mid is.next
   again_continues true (entry ∷ more) before (Http begun) old mid is = absurd is
   again_continues true (entry ∷ more) before (Pages begun) old mid is = absurd is
+  again_continues true (entry ∷ more) before (Desk begun) old mid is = absurd is
   again_continues true (entry ∷ more) before (Lines begun) old mid is = absurd is
   again_continues true [] before begun old mid is = subst (λ (served : Served S). Continues store old served) (sym is.1) (stays store old)
   again_continues false asked before begun old mid is = subst (λ (served : Served S). Continues store old served) (sym is.1) (stays store old)

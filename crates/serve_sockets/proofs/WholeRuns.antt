@@ -39,6 +39,7 @@ use Rattle.serve_sockets.proofs.VisitPlaces.{Grew, IsShared, Split, at_it, at_ot
 use Rattle.serve_sockets.proofs.Inquiring.{grown_alone, grown_by, journal_is, lives_on, runs_so}
 use Rattle.serve_sockets.specs.Places.{StandAt}
 use Rattle.serve_sockets.specs.Requests.{AnswersCalls}
+use Rattle.serve_sockets.specs.Desk.{AnswersDeskCalls}
 use Rattle.serve_sockets.specs.Pages.{AnswersPageCalls}
 use Rattle.serve_sockets.specs.Last.{TellsLast}
 use Rattle.serve_sockets.specs.EndToEnd.{FromEndToEnd, HadAnswer, IsAnswered, IsFoundAgain, IsFresh, TellsInStep, TellsNow, TellsThen, WasAnswered, log_of}
@@ -52,7 +53,7 @@ use Rattle.serve_sockets.specs.declared.doors.Speech.{Speech}
 use Rattle.serve_sockets.specs.declared.doors.Speech.TheVariants as speech_is
 use Rattle.serve_sockets.specs.declared.guest.Guest.{Guest}
 use Rattle.serve_sockets.specs.declared.guest.Peer.{Peer}
-use Rattle.serve_sockets.specs.declared.guest.Peer.TheVariants.{Http, Last, Lines, Pages}
+use Rattle.serve_sockets.specs.declared.guest.Peer.TheVariants.{Desk, Http, Last, Lines, Pages}
 use Rattle.http_server.specs.Exchange.{Call}
 use Rattle.room_serve.specs.Crashes.{IsFound}
 use Rattle.serve_peers.specs.ServedLives.{told_to}
@@ -102,6 +103,10 @@ module _ {S : Type 0} (store : Ghosts S) (before : Served S) (fresh : IsFresh be
   new_answered speech_is.Pages (Pages peer) journal is = record {
     served = always_served (connection_of peer);
     answered = subst (λ (calls : List Call). AnswersPageCalls store (store_of before) last calls 0 [] journal) (sym (ap (λ (h : History). h.calls) is)) refl;
+  }
+  new_answered speech_is.Desk (Desk peer) journal is = record {
+    served = always_served (connection_of peer);
+    answered = subst (λ (calls : List Call). AnswersDeskCalls store (store_of before) last calls 0 [] journal) (sym (ap (λ (h : History). h.calls) is)) refl;
   }
   new_answered (speech_is.Lines side) (Lines peer) journal is = new_lines side peer journal is
   new_answered _ _ journal is = absurd is
@@ -467,6 +472,7 @@ module _ {S : Type 0} (store : Ghosts S) (before : Served S) (fresh : IsFresh be
   refused_has (Last peer) journal (inr none) = (inr (record { nowhere = refl; went = refusal_text NoSpace; text = sym (ap (λ x. refusal_text NoSpace ++ x) none ∙ append-nil (refusal_text NoSpace)) }), tt)
   refused_has (Http peer) journal is = absurd is
   refused_has (Pages peer) journal is = absurd is
+  refused_has (Desk peer) journal is = absurd is
   refused_has (Lines peer) journal is = absurd is
 
   begins_refused : (was begun : Peer) (had : List ℕ) (old mid : Served S) → IsRefusedForSpace begun → mid ≡ old → HasAnswer was had (journal_of old) → BeginsTurn was begun had old mid
@@ -512,6 +518,7 @@ module _ {S : Type 0} (store : Ghosts S) (before : Served S) (fresh : IsFresh be
   again_goes true (entry ∷ more) was (Last begun) had old mid is alone going = told_again (entry, is.told) was begun had old mid is.next alone is.left going
   again_goes true (entry ∷ more) was (Http begun) had old mid is alone going = absurd is
   again_goes true (entry ∷ more) was (Pages begun) had old mid is alone going = absurd is
+  again_goes true (entry ∷ more) was (Desk begun) had old mid is alone going = absurd is
   again_goes true (entry ∷ more) was (Lines begun) had old mid is alone going = absurd is
   again_goes true [] was begun had old mid is alone going = stays_or_not _ was begun had old mid is going
   again_goes false [] was begun had old mid is alone going = stays_or_not _ was begun had old mid is going
@@ -521,9 +528,11 @@ module _ {S : Type 0} (store : Ghosts S) (before : Served S) (fresh : IsFresh be
   last_stays ends ends2 next (Last begun) (Last now) old new takes is = tt
   last_stays ends ends2 next (Last begun) (Http now) old new takes is = absurd takes
   last_stays ends ends2 next (Last begun) (Pages now) old new takes is = absurd takes
+  last_stays ends ends2 next (Last begun) (Desk now) old new takes is = absurd takes
   last_stays ends ends2 next (Last begun) (Lines now) old new takes is = absurd takes
   last_stays ends ends2 next (Http begun) now old new takes is = absurd is
   last_stays ends ends2 next (Pages begun) now old new takes is = absurd is
+  last_stays ends ends2 next (Desk begun) now old new takes is = absurd is
   last_stays ends ends2 next (Lines begun) now old new takes is = absurd is
 
   -- how a turn ends: it is there at these places, or was let go, and they are of a visit that is over
@@ -1236,55 +1245,75 @@ module _ {S : Type 0} (store : Ghosts S) (before : Served S) (fresh : IsFresh be
     answered = refl;
   }
   nothing_now shares stays (Pages peer) old new = record { calls = []; more = sym (append-nil (calls_of peer)); places = []; answered = refl }
+  nothing_now shares stays (Desk peer) old new = record { calls = []; more = sym (append-nil (calls_of peer)); places = []; answered = refl }
   nothing_now shares stays (Http peer) old new = tt
   nothing_now shares stays (Last peer) old new = tt
 
   last_tells : (shares : Bool) (stays : Type 0) (was left : Peer) (old new : Served S) → IsLast left → TellsNow store (store_of before) last shares stays was left old new
   last_tells shares stays (Lines was) (Last left) old new is = tt
   last_tells shares stays (Pages was) (Last left) old new is = tt
+  last_tells shares stays (Desk was) (Last left) old new is = tt
   last_tells shares stays (Http was) (Last left) old new is = tt
   last_tells shares stays (Last was) (Last left) old new is = tt
   last_tells shares stays was (Lines left) old new is = absurd is
   last_tells shares stays was (Pages left) old new is = absurd is
+  last_tells shares stays was (Desk left) old new is = absurd is
   last_tells shares stays was (Http left) old new is = absurd is
 
   moment_tells : (shares : Bool) (stays : Type 0) (was left : Peer) (old new : Served S) (moment : ℕ) (spare : Spare) → TellsNow store (store_of before) last shares stays was left (record old { moment = moment; spare = spare }) new → TellsNow store (store_of before) last shares stays was left old new
   moment_tells true stays (Lines was) (Lines left) old new moment spare is = is
   moment_tells true stays (Pages was) (Pages left) old new moment spare is = is
+  moment_tells true stays (Desk was) (Desk left) old new moment spare is = is
   moment_tells false stays (Lines was) (Lines left) old new moment spare is = is
   moment_tells false stays (Pages was) (Pages left) old new moment spare is = is
+  moment_tells false stays (Desk was) (Desk left) old new moment spare is = is
   moment_tells shares stays (Http was) left old new moment spare is = tt
   moment_tells shares stays (Last was) left old new moment spare is = tt
   moment_tells shares stays (Lines was) (Http left) old new moment spare is = tt
   moment_tells shares stays (Lines was) (Pages left) old new moment spare is = tt
+  moment_tells shares stays (Lines was) (Desk left) old new moment spare is = tt
   moment_tells shares stays (Lines was) (Last left) old new moment spare is = tt
   moment_tells shares stays (Pages was) (Http left) old new moment spare is = tt
+  moment_tells shares stays (Desk was) (Http left) old new moment spare is = tt
+  moment_tells shares stays (Pages was) (Desk left) old new moment spare is = tt
+  moment_tells shares stays (Desk was) (Pages left) old new moment spare is = tt
   moment_tells shares stays (Pages was) (Lines left) old new moment spare is = tt
+  moment_tells shares stays (Desk was) (Lines left) old new moment spare is = tt
   moment_tells shares stays (Pages was) (Last left) old new moment spare is = tt
+  moment_tells shares stays (Desk was) (Last left) old new moment spare is = tt
 
   -- what is kept with a peer is no matter of the journal
   asked_tells : (stays : Type 0) (was left : Peer) (old new : Served S) (asked now_asked : Option Entry) → TellsNow store (store_of before) last true stays was left (record old { asked = asked }) new → TellsNow store (store_of before) last true stays was left old (record new { asked = now_asked })
   asked_tells stays (Lines was) (Lines left) old new asked now_asked is = is
   asked_tells stays (Pages was) (Pages left) old new asked now_asked is = is
+  asked_tells stays (Desk was) (Desk left) old new asked now_asked is = is
   asked_tells stays (Http was) left old new asked now_asked is = tt
   asked_tells stays (Last was) left old new asked now_asked is = tt
   asked_tells stays (Lines was) (Http left) old new asked now_asked is = tt
   asked_tells stays (Lines was) (Pages left) old new asked now_asked is = tt
+  asked_tells stays (Lines was) (Desk left) old new asked now_asked is = tt
   asked_tells stays (Lines was) (Last left) old new asked now_asked is = tt
   asked_tells stays (Pages was) (Http left) old new asked now_asked is = tt
+  asked_tells stays (Desk was) (Http left) old new asked now_asked is = tt
+  asked_tells stays (Pages was) (Desk left) old new asked now_asked is = tt
+  asked_tells stays (Desk was) (Pages left) old new asked now_asked is = tt
   asked_tells stays (Pages was) (Lines left) old new asked now_asked is = tt
+  asked_tells stays (Desk was) (Lines left) old new asked now_asked is = tt
   asked_tells stays (Pages was) (Last left) old new asked now_asked is = tt
+  asked_tells stays (Desk was) (Last left) old new asked now_asked is = tt
 
   refused_last : (begun : Peer) → IsRefusedForSpace begun → IsLast begun
   refused_last (Last begun) is = tt
   refused_last (Http begun) is = absurd is
   refused_last (Pages begun) is = absurd is
+  refused_last (Desk begun) is = absurd is
   refused_last (Lines begun) is = absurd is
 
   again_same : (lost : Bool) (asked : List Entry) (was begun : Peer) (old mid : Served S) → AsksAgain store lost asked was begun old mid → ((begun ≡ was) × (mid ≡ old)) ⊎ IsLast begun
   again_same true (entry ∷ more) was (Last begun) old mid is = inr tt
   again_same true (entry ∷ more) was (Http begun) old mid is = absurd is
   again_same true (entry ∷ more) was (Pages begun) old mid is = absurd is
+  again_same true (entry ∷ more) was (Desk begun) old mid is = absurd is
   again_same true (entry ∷ more) was (Lines begun) old mid is = absurd is
   again_same true [] was begun old mid (inl same, mid_is) = inl (same, mid_is)
   again_same true [] was begun old mid (inr refused, mid_is) = inr (refused_last begun refused.1)

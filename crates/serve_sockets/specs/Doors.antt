@@ -11,7 +11,7 @@ use Rattle.serve_sockets.specs.declared.doors.Speech.{Speech}
 use Rattle.serve_sockets.specs.declared.doors.Speech.TheVariants as speech_is
 use Rattle.serve_sockets.specs.declared.guest.Guest.{Guest}
 use Rattle.serve_sockets.specs.declared.guest.Peer.{Peer}
-use Rattle.serve_sockets.specs.declared.guest.Peer.TheVariants.{Http, Last, Lines, Pages}
+use Rattle.serve_sockets.specs.declared.guest.Peer.TheVariants.{Desk, Http, Last, Lines, Pages}
 
 abbrev pub kind_of : Entrance → Kind
 kind_of entrance = entrance.kind
@@ -36,6 +36,7 @@ speech_of entrance = (kind_of entrance).speech
 abbrev pub Speaks : Peer → Speech → Type 0
 Speaks (Http peer) speech_is.Http = ⊤
 Speaks (Pages peer) speech_is.Pages = ⊤
+Speaks (Desk peer) speech_is.Desk = ⊤
 Speaks (Lines peer) (speech_is.Lines side) = side_of (lines_of peer) ≡ side
 Speaks (Last peer) speech = ⊤
 Speaks _ _ = ⊥

@@ -23,9 +23,10 @@ use Rattle.serve_sockets.specs.Halls.{AllEnterBy, Ask, Serve}
 use Rattle.serve_sockets.specs.declared.doors.Speech.{Speech}
 use Rattle.serve_sockets.specs.declared.guest.Guest.{Guest}
 use Rattle.serve_sockets.specs.declared.guest.Peer.{Peer}
-use Rattle.serve_sockets.specs.declared.guest.Peer.TheVariants.{Http, Last, Lines, Pages}
+use Rattle.serve_sockets.specs.declared.guest.Peer.TheVariants.{Desk, Http, Last, Lines, Pages}
 use Rattle.serve_sockets.specs.Requests.{HasAnsweredRequests}
 use Rattle.serve_sockets.specs.Lines.{HasAnsweredLines, TellsLinesNow}
+use Rattle.serve_sockets.specs.Desk.{HasAnsweredDesk, TellsDeskNow}
 use Rattle.serve_sockets.specs.Pages.{HasAnsweredPages, TellsPagesNow}
 use Rattle.serve_sockets.specs.Last.{TellsLast, TellsNoSpace}
 use Rattle.serve_sockets.specs.Visits.{Before, Course, InStep, IsVisit, LetsGo, LosesRound, MayEnd, OfSteps, Over, There, Visit, left_by}
@@ -40,6 +41,7 @@ module _ {S : Type 0} (store : Ghosts S) (first last : Held S) where
   IsAnswered (Http peer) places journal = HasAnsweredRequests peer places journal
   IsAnswered (Pages peer) places journal =
       HasAnsweredPages store first last peer places journal
+  IsAnswered (Desk peer) places journal = HasAnsweredDesk store first last peer places journal
   IsAnswered (Lines peer) places journal = HasAnsweredLines store first last (lines_of peer)
       (output_of (lines_of peer)) places journal
   IsAnswered (Last peer) places journal = TellsLast peer places journal ⊎ TellsNoSpace peer places
@@ -48,6 +50,7 @@ module _ {S : Type 0} (store : Ghosts S) (first last : Held S) where
   abbrev pub WasAnswered : Peer → (places : List ℕ) (journal : List Told) → Type 0
   WasAnswered (Http peer) places journal = IsAnswered (Http peer) places journal
   WasAnswered (Pages peer) places journal = IsAnswered (Pages peer) places journal
+  WasAnswered (Desk peer) places journal = IsAnswered (Desk peer) places journal
   WasAnswered (Lines peer) places journal = (waits : List ℕ)
       × HasAnsweredLines store first last (lines_of peer) waits places journal
   WasAnswered (Last peer) places journal = IsAnswered (Last peer) places journal
@@ -59,6 +62,8 @@ module _ {S : Type 0} (store : Ghosts S) (first last : Held S) where
   TellsNow shares stays (Lines was) (Lines left) old new = TellsLinesNow store first last
       shares stays (lines_of was) (lines_of left) (length (log_of shares old)) (log_of shares new)
   TellsNow shares stays (Pages was) (Pages left) old new = TellsPagesNow store first last shares
+      was left (length (log_of shares old)) (log_of shares new)
+  TellsNow shares stays (Desk was) (Desk left) old new = TellsDeskNow store first last shares
       was left (length (log_of shares old)) (log_of shares new)
   TellsNow shares stays _ _ old new = ⊤
 

@@ -19,12 +19,13 @@ use Rattle.serve_peers.specs.declared.step.Turn.{Turn}
 use Rattle.input_http.specs.Limits.{longest_head}
 use Rattle.input_http.specs.declared.refusal.Refusal.TheVariants.{NoSpace}
 use Rattle.serve_space.specs.Spares.{takes_of}
+use Rattle.serve_desk.specs.Answers.{Answers as AnswersAtDesk}
 use Rattle.serve_web.specs.Answers.{Answers}
 use Rattle.serve_sockets.specs.declared.doors.Speech.{Speech}
 use Rattle.serve_sockets.specs.declared.doors.Speech.TheVariants as speech_is
 use Rattle.serve_sockets.specs.declared.guest.Guest.{Guest}
 use Rattle.serve_sockets.specs.declared.guest.Peer.{Peer}
-use Rattle.serve_sockets.specs.declared.guest.Peer.TheVariants.{Http, Last, Lines, Pages}
+use Rattle.serve_sockets.specs.declared.guest.Peer.TheVariants.{Desk, Http, Last, Lines, Pages}
 
 abbrev pub peer_of : Guest → Peer
 peer_of guest = guest.peer
@@ -50,6 +51,7 @@ turns_of guest = guest.turns.items
 abbrev pub CameBy : Speech → Peer → Type 0
 CameBy speech_is.Http (Http peer) = history (http.connection_of peer) ≡ new_history
 CameBy speech_is.Pages (Pages peer) = history (http.connection_of peer) ≡ new_history
+CameBy speech_is.Desk (Desk peer) = history (http.connection_of peer) ≡ new_history
 CameBy (speech_is.Lines side) (Lines peer) = IsNewOf side (lines.lines_of peer)
 CameBy _ _ = ⊥
 
@@ -63,6 +65,7 @@ IsNew doors guest = (speech : Speech) × CameBy speech (peer_of guest) × (turns
 abbrev pub IsAtRest : Peer → Type 0
 IsAtRest (Http peer) = http.IsAtRest peer
 IsAtRest (Pages peer) = http.IsAtRest peer
+IsAtRest (Desk peer) = http.IsAtRest peer
 IsAtRest (Lines peer) = lines.HasTaken (lines.lines_of peer)
 IsAtRest (Last peer) = last.left_of peer ≢ []
 
@@ -80,6 +83,8 @@ HasSentMore most (Http peer) =
     (most + longest_head < http.came_of peer) × ¬ (http.HasAnswer peer)
 HasSentMore most (Pages peer) =
     (most + longest_head < http.came_of peer) × ¬ (http.HasAnswer peer)
+HasSentMore most (Desk peer) =
+    (most + longest_head < http.came_of peer) × ¬ (http.HasAnswer peer)
 HasSentMore most _ = ⊥
 
 -- it is told that there is no space, and nothing more
@@ -93,14 +98,17 @@ StaysOrIsRefused most before after =
 
 module _ {S : Type 0} (store : Ghosts S) where
   -- What came on this connection is taken, by what is spoken on it, and nothing else becomes of the
-  -- rooms: each request is a call of the service of queues or of that of pages, and each line is
-  -- applied, or a bad one. Behind what goes last nothing that comes is taken, and nothing becomes of the rooms.
+  -- rooms: each request is a call of the service of queues, of that of pages or of that of the desk, and each
+  -- line is applied, or a bad one. Behind what goes last nothing that comes is taken, and nothing becomes of the rooms.
   abbrev pub TakesTurn : (ends ends2 : Ends) (next : Next) (before after : Peer)
       (old new : Served S) → Type 0
   TakesTurn ends ends2 next (Http before) (Http after) old new =
       http.MakesCalls store before after old new × http.IsLater ends ends2 before after
   TakesTurn ends ends2 next (Pages before) (Pages after) old new =
       http.CallsService (Answers store) before after old new
+      × http.IsLater ends ends2 before after
+  TakesTurn ends ends2 next (Desk before) (Desk after) old new =
+      http.CallsService (AnswersAtDesk store) before after old new
       × http.IsLater ends ends2 before after
   TakesTurn ends ends2 next (Lines before) (Lines after) old new =
       lines.TakesTurn store ends ends2 next before after old new
@@ -117,6 +125,7 @@ module _ {S : Type 0} (store : Ghosts S) where
       last.IsToldAgain store entry begun old mid
   AsksAgain true (entry ∷ more) before (Http begun) old mid = ⊥
   AsksAgain true (entry ∷ more) before (Pages begun) old mid = ⊥
+  AsksAgain true (entry ∷ more) before (Desk begun) old mid = ⊥
   AsksAgain true (entry ∷ more) before (Lines begun) old mid = ⊥
   AsksAgain _ _ before begun old mid =
       StaysOrIsRefused (takes_of (spare_of old)) before begun × (mid ≡ old)

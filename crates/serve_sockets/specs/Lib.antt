@@ -7,6 +7,7 @@ pub mod Requests
 pub mod Questions
 pub mod Lines
 pub mod Pages
+pub mod Desk
 pub mod Last
 pub mod Visits
 pub mod EndToEnd

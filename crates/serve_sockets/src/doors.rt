@@ -24,6 +24,8 @@ pub enum Speech {
     Http,
     /// HTTP, with the service of pages.
     Pages,
+    /// HTTP, with the service of the desk.
+    Desk,
     /// Lines of a side.
     Lines(Side),
 }
@@ -38,6 +40,7 @@ impl Speech {
         match self {
             Speech::Http => Peer::Http(HttpPeer::new(alloc, keys, ticks)),
             Speech::Pages => Peer::Pages(HttpPeer::new(alloc, keys, ticks)),
+            Speech::Desk => Peer::Desk(HttpPeer::new(alloc, keys, ticks)),
             Speech::Lines(side) => Peer::Lines(LinePeer::new(alloc, side, ticks)),
         }
     }
@@ -63,6 +66,12 @@ impl Kind {
     pub const PAGES: Kind = Kind {
         speech: Speech::Pages,
         most: 256,
+    };
+
+    /// For operators in browsers, at the desk.
+    pub const DESK: Kind = Kind {
+        speech: Speech::Desk,
+        most: 64,
     };
 
     /// For stations, which may name any device.

@@ -12,6 +12,7 @@ use crate::stream::{Stream, Unsent};
 use http_server::Log;
 use input_http::Refusal;
 use mio::{Interest, Registry, Token};
+use serve_desk::drive_desk;
 use serve_peers::{Entry, HttpPeer, LARGE, LastPeer, LinePeer, Next, Patience, Served, Turn};
 use serve_web::drive_browser;
 use sqlite::Alter;
@@ -25,6 +26,8 @@ pub(crate) enum Peer {
     Http(HttpPeer),
     /// A browser at the pages.
     Pages(HttpPeer),
+    /// An operator's browser at the desk.
+    Desk(HttpPeer),
     Lines(LinePeer),
     /// It is told one last thing: what it asked in a round whose commit failed came to this, or its
     /// request is too long for the space that is left.
@@ -37,6 +40,7 @@ impl Drop for Peer {
         match self {
             Peer::Http(_) => {}
             Peer::Pages(_) => {}
+            Peer::Desk(_) => {}
             Peer::Lines(_) => {}
             Peer::Last(_) => {}
         }
@@ -62,6 +66,7 @@ impl Peer {
         match self {
             Peer::Http(peer) => peer.drive(reader, writer, served, turn),
             Peer::Pages(peer) => drive_browser(peer, reader, writer, served, turn),
+            Peer::Desk(peer) => drive_desk(peer, reader, writer, served, turn),
             Peer::Lines(peer) => peer.drive(reader, writer, served, turn),
             Peer::Last(peer) => peer.drive(reader, writer, turn),
         }
@@ -217,13 +222,14 @@ impl Guest {
         match &self.peer {
             Peer::Http(peer) => peer.outgrows(most),
             Peer::Pages(peer) => peer.outgrows(most),
+            Peer::Desk(peer) => peer.outgrows(most),
             Peer::Lines(_) | Peer::Last(_) => false,
         }
     }
 
     /// Whether it has no turn in a round: pages are shown as the tables are between rounds.
     pub(crate) fn never_shares(&self) -> bool {
-        matches!(self.peer, Peer::Pages(_))
+        matches!(self.peer, Peer::Pages(_) | Peer::Desk(_))
     }
 
     /// Shuts the socket's writing side, so that the peer sees that nothing more comes.
@@ -255,6 +261,7 @@ impl Guest {
         match &self.peer {
             Peer::Http(peer) => peer.patience(),
             Peer::Pages(peer) => peer.patience(),
+            Peer::Desk(peer) => peer.patience(),
             Peer::Lines(peer) => peer.patience(),
             Peer::Last(peer) => peer.patience(),
         }
@@ -265,6 +272,7 @@ impl Guest {
         match &self.peer {
             Peer::Http(peer) => peer.bytes_held(),
             Peer::Pages(peer) => peer.bytes_held(),
+            Peer::Desk(peer) => peer.bytes_held(),
             Peer::Lines(peer) => peer.bytes_held(),
             Peer::Last(peer) => peer.bytes_held(),
         }
@@ -275,6 +283,7 @@ impl Guest {
         match &self.peer {
             Peer::Http(peer) => peer.has_output(),
             Peer::Pages(peer) => peer.has_output(),
+            Peer::Desk(peer) => peer.has_output(),
             Peer::Lines(peer) => peer.has_output(),
             Peer::Last(peer) => peer.bytes_held() > 0,
         }
@@ -285,6 +294,7 @@ impl Guest {
         match &self.peer {
             Peer::Http(peer) => peer.is_large(),
             Peer::Pages(peer) => peer.is_large(),
+            Peer::Desk(peer) => peer.is_large(),
             Peer::Lines(peer) => peer.bytes_held() > LARGE,
             Peer::Last(peer) => peer.bytes_held() > LARGE,
         }
@@ -302,6 +312,7 @@ impl Guest {
         match &self.peer {
             Peer::Http(peer) => peer.has_large_answer(),
             Peer::Pages(peer) => peer.has_large_answer(),
+            Peer::Desk(peer) => peer.has_large_answer(),
             Peer::Lines(_) | Peer::Last(_) => false,
         }
     }
@@ -318,6 +329,7 @@ impl Guest {
         let has_to_send = match &self.peer {
             Peer::Http(peer) => peer.has_to_send(),
             Peer::Pages(peer) => peer.has_to_send(),
+            Peer::Desk(peer) => peer.has_to_send(),
             Peer::Lines(peer) => peer.has_to_send(),
             Peer::Last(peer) => peer.bytes_held() == 0,
         };

@@ -23,11 +23,7 @@ use store_rounds::StoreFault;
 
 /// Answers with a refusal: its status, and the page that explains it. `closes`: the connection ends
 /// with the answer.
-pub(crate) fn refuse(
-    response: &mut Response,
-    refusal: Refusal,
-    closes: bool,
-) -> Result<(), AllocError>
+pub fn refuse(response: &mut Response, refusal: Refusal, closes: bool) -> Result<(), AllocError>
     requires { IsBlank response.old }
     ensures { OnOk result (IsRefusal refusal closes response.new) }
 {
@@ -42,7 +38,7 @@ pub(crate) fn refuse(
 
 /// Answers with the style sheet or the script, whose text is not copied. `kind` is its
 /// Content-Type.
-pub(crate) fn put_sheet(
+pub fn put_sheet(
     response: &mut Response,
     kind: &'static str,
     text: &'static str,
@@ -59,7 +55,7 @@ pub(crate) fn put_sheet(
 
 /// Answers with the page or the table that the store gave, or `500 Internal Server Error` where
 /// there is no memory for it. `kind` is its Content-Type.
-pub(crate) fn show(
+pub fn show(
     response: &mut Response,
     kind: &'static str,
     told: Result<Reply, StoreFault>,
@@ -124,7 +120,7 @@ fn is_no_account(text: &[u8]) -> bool
 }
 
 /// Makes bytes that the answer shares, without a copy.
-pub(crate) fn shared(bytes: Vec<u8>) -> Result<Bytes, AllocError>
+pub fn shared(bytes: Vec<u8>) -> Result<Bytes, AllocError>
     ensures { IfOk result (λ shared. shared ≡ bytes.items) }
 {
     match Bytes::from_vec(bytes) {
@@ -258,7 +254,7 @@ fn value_of(text: Vec<u8>) -> Result<HeaderValue, AllocError>
 }
 
 /// Answers `500 Internal Server Error` and nothing else, where memory ran out.
-fn lose(response: &mut Response)
+pub fn lose(response: &mut Response)
     ensures { IsLost response.new }
 {
     response.clear();

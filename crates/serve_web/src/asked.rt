@@ -13,14 +13,14 @@ use page_pages::{Form, Outcome, Refusal};
 
 /// The months of a statement: one, or the twelve of a year.
 #[derive(Clone, Copy)]
-pub(crate) struct Months {
-    pub(crate) first: u32,
-    pub(crate) last: u32,
+pub struct Months {
+    pub first: u32,
+    pub last: u32,
 }
 
 /// What a request of a browser asks for.
 #[derive(Clone, Copy)]
-pub(crate) enum Asked {
+pub enum Asked {
     /// The style sheet.
     Style,
     /// The script of the pages.
@@ -147,7 +147,7 @@ fn wish(request: &Request<Bytes>, place: &Place) -> Option<Asked>
 }
 
 /// Gives the query of a request, which is empty where it has none.
-pub(crate) fn query_of(request: &Request<Bytes>) -> &[u8]
+pub fn query_of(request: &Request<Bytes>) -> &[u8]
     ensures { result.now ≡ query_of request.now }
 {
     match request.uri().query() {
@@ -168,7 +168,7 @@ fn body_refusal(request: &Request<Bytes>, asked: &Asked) -> Option<Refusal>
 }
 
 /// Gives the refusal of an act's body, if it is not sent as a form.
-fn form_refusal(request: &Request<Bytes>) -> Option<Refusal>
+pub fn form_refusal(request: &Request<Bytes>) -> Option<Refusal>
     ensures { result ≡ form_refusal request.now }
 {
     if has_type(request, b"application/x-www-form-urlencoded") {

@@ -13,7 +13,7 @@ use std::alloc::AllocError;
 /// Adds the fields of a page, which a browser is not to keep. `closes`: the connection ends with
 /// the answer.
 #[tactic(auto, using(std::proofs::Common::append_assoc))]
-pub(crate) fn put_page_fields(response: &mut Response, closes: bool) -> Result<(), AllocError>
+pub fn put_page_fields(response: &mut Response, closes: bool) -> Result<(), AllocError>
     ensures status { response.new.status ≡ response.old.status }
     ensures body { response.new.body ≡ response.old.body }
     ensures fields { OnOk result

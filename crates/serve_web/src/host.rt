@@ -8,7 +8,7 @@ use input_http::are_digits;
 
 /// Whether a request of this Host is answered. `hosts`: the names that are, parted by commas, or
 /// `None` where each is.
-pub(crate) fn is_answered(hosts: Option<&'static [u8]>, request: &Request<Bytes>) -> bool
+pub fn is_answered(hosts: Option<&'static [u8]>, request: &Request<Bytes>) -> bool
     ensures { result ≡ is_answered (option_map (λ names. names.now) hosts.entry) request.now }
 {
     match hosts {

@@ -21,8 +21,15 @@ mod replaced;
 mod turn;
 mod word;
 
+pub use answer::{lose, put_sheet, refuse, shared, show};
+pub use asked::{Asked, Months, form_refusal, query_of};
+pub use fields::put_page_fields;
+pub use host::is_answered;
 pub use laws::{
     foreign_forms_do_nothing, other_hosts_are_refused, pages_are_by_path,
     without_origin_nothing_is_applied,
 };
+pub use query::statement_asked;
+pub use questions::{kind_of, month_then, question_of};
+pub use refusal::status_of;
 pub use turn::drive_browser;

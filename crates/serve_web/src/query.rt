@@ -57,7 +57,7 @@ pub(crate) fn owner_asked(account: Name, query: &[u8]) -> Asked
 
 /// Reads the query of a statement: `month=YYYY-MM`, `year=YYYY`, or nothing for the month that it
 /// is.
-pub(crate) fn statement_asked(account: Name, form: Form, query: &[u8]) -> Option<Asked>
+pub fn statement_asked(account: Name, form: Form, query: &[u8]) -> Option<Asked>
     ensures { result ≡ statement_asked account form query.now }
 {
     if query.is_empty() {

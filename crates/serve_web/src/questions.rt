@@ -13,7 +13,7 @@ const PAGE_KIND: &str = "text/html; charset=utf-8";
 
 /// Makes the question whose answer is the page, at a moment (seconds since 1970-01-01T00:00:00Z).
 /// What is no page of an account asks nothing (`Ping`).
-pub(crate) fn question_of(needs_password: bool, moment: u64, asked: &Asked) -> Question
+pub fn question_of(needs_password: bool, moment: u64, asked: &Asked) -> Question
     ensures { result ≡ question_of needs_password moment asked.now }
 {
     match asked {
@@ -51,7 +51,7 @@ pub(crate) fn question_of(needs_password: bool, moment: u64, asked: &Asked) -> Q
 }
 
 /// Gives the month of the moment, or the last that there is where it lies past that.
-fn month_then(moment: u64) -> u32
+pub fn month_then(moment: u64) -> u32
     ensures { result ≡ month_then moment }
 {
     match Moment::new(moment) {
@@ -77,7 +77,7 @@ fn months_then(moment: u64, months: Option<Months>) -> Months
 }
 
 /// Gives the Content-Type of what a question is answered with: a page, or a table (RFC 4180).
-pub(crate) fn kind_of(question: &Question) -> &'static str
+pub fn kind_of(question: &Question) -> &'static str
     ensures kind { result.now ≡ kind_of question.now }
     ensures text { IsTrue (is_visible_text result.now) }
 {

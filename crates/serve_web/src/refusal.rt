@@ -6,13 +6,14 @@ use http::StatusCode;
 use page_pages::Refusal;
 
 /// Gives the HTTP status of a refusal (RFC 9110 section 15).
-pub(crate) fn status_of(refusal: Refusal) -> StatusCode
+pub fn status_of(refusal: Refusal) -> StatusCode
     ensures { result ≡ status_of refusal }
 {
     match refusal {
         Refusal::BadRequest => StatusCode::BAD_REQUEST,
         Refusal::Misdirected => StatusCode::MISDIRECTED_REQUEST,
         Refusal::Forbidden => StatusCode::FORBIDDEN,
+        Refusal::NoOperator => StatusCode::FORBIDDEN,
         Refusal::NotFound => StatusCode::NOT_FOUND,
         Refusal::OnlyRead => StatusCode::METHOD_NOT_ALLOWED,
         Refusal::OnlyPost => StatusCode::METHOD_NOT_ALLOWED,

@@ -79,3 +79,10 @@ returns-in-StatementPage g c = record {
   damaged = damaged_as g.S.Store c.args.connection.now c.tell_statement_page.new.connection c.args.account c.tell_statement_page.result c.in-StatementPage.is c.tell_statement_page.ensures.damaged;
   looks = c.tell_statement_page.ensures.looks;
 }
+
+pub returns-in-DeskPage : goal.returns-in-DeskPage
+returns-in-DeskPage g c = record {
+  told = told_as g.S.Store c.args.connection.now c.tell_desk_page.new.connection c.args.account c.tell_desk_page.result c.in-DeskPage.is c.tell_desk_page.ensures.told;
+  damaged = damaged_as g.S.Store c.args.connection.now c.tell_desk_page.new.connection c.args.account c.tell_desk_page.result c.in-DeskPage.is c.tell_desk_page.ensures.damaged;
+  looks = c.tell_desk_page.ensures.looks;
+}

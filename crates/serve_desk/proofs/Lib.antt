@@ -1,0 +1,3 @@
+pub mod DeskCalls
+pub mod ForeignForms
+pub mod Nobody

@@ -1,0 +1,9 @@
+pub mod Operators
+pub mod Places
+pub mod Requests
+pub mod Lines
+pub mod Acts
+pub mod Questions
+pub mod Answers
+pub mod Laws
+pub mod ProofDesk
