@@ -16,7 +16,7 @@ use Rattle.page_pages.specs.declared.desk_account.DeskAccount.{DeskAccount}
 use Rattle.page_pages.specs.declared.markup.TheConstants.{ACTS_OF_LINE, DESK_SCRIPTS, END_OF_ACTS, END_OF_CARD, END_OF_PAGE, END_OF_PAIR, END_OF_STATE, END_OF_TABLE, PAIR}
 use Rattle.page_pages.specs.declared.phase.Phase.{Phase}
 use Rattle.page_pages.specs.declared.phase.Phase.TheVariants.{Incomplete, Locked, Uncounted, Ready, Released, Printing, Stopping, Printed, Canceled, Failed}
-use Rattle.page_pages.specs.declared.texts.TheConstants.{DESK, NO_MONTH_LEFT, NOTHING_WAITS, WAITING, ACTS, COPIES, DEVICE, FILES, JOB, MADE, NUMBER, PAGES, STATE}
+use Rattle.page_pages.specs.declared.texts.TheConstants.{DESK, NO_MONTH_LEFT, NOTHING, NOTHING_WAITS, WAITING, ACTS, COPIES, DEVICE, FILES, JOB, MADE, NUMBER, PAGES, STATE}
 
 -- the heads of the columns
 unfoldable pub jobs_columns : List Part
@@ -73,11 +73,14 @@ unfoldable pub desk_acts : (account : List ℕ) → Phase → (number : ℕ) →
 desk_acts account phase number =
     ACTS_OF_LINE.now ++ (desk_buttons phase number ++ html (job_end account number))
 
+-- how it stands
+unfoldable pub plain_state : Phase → List ℕ
+plain_state phase = html (job_state (sign phase) (word phase) NOTHING.now) ++ END_OF_STATE.now
+
 unfoldable pub desk_cells : Phase → Job → List ℕ
 desk_cells phase it =
     html (job_name it.job (name_words it.name))
-    ++ (html (job_state (sign phase) (word phase) (codes ""))
-    ++ (END_OF_STATE.now ++ html (counts_of phase it.standing)))
+    ++ (plain_state phase ++ html (counts_of phase it.standing))
 
 unfoldable pub desk_job : (account : List ℕ) → Job → List ℕ
 desk_job account it = desk_cells (phase_of it) it ++ desk_acts account (phase_of it) it.job

@@ -118,11 +118,14 @@ unfoldable pub devices_table : List Device → List ℕ
 devices_table devices =
     html (card (codes "devices") ALL_DEVICES.now) ++ (table_of_devices devices ++ END_OF_CARD.now)
 
+unfoldable pub devices_head : List ℕ
+devices_head = html (document DEVICES.now) ++ DESK_SCRIPTS.now
+
+unfoldable pub devices_start : List ℕ
+devices_start =
+    devices_head ++ (html (top DESK.now) ++ (html desk_links ++ html devices_title))
+
 unfoldable pub devices_page : List Device → List ℕ
 devices_page devices =
-    html (document DEVICES.now)
-    ++ (DESK_SCRIPTS.now
-    ++ (html (top DESK.now)
-    ++ (html desk_links
-    ++ (html devices_title
-    ++ (devices_table devices ++ (html device_form ++ (html foot ++ END_OF_PAGE.now)))))))
+    devices_start
+    ++ (devices_table devices ++ (html device_form ++ (html foot ++ END_OF_PAGE.now)))

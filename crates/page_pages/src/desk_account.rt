@@ -4,7 +4,7 @@
 ghost use Rattle.std.specs.Prelude.{◌≡◌, ◌++◌, ◌≤◌, OnOk, flat_map};
 ghost use Rattle.account_rules.specs.Limits.{most_units};
 ghost use Rattle.page_pages.specs.Balances.{balance};
-ghost use Rattle.page_pages.specs.DeskAccounts.{account_end, account_forms, account_lists, account_start, desk_account_page, desk_acts, desk_buttons, desk_cells, desk_content, desk_job, give_back, job_end, jobs_card, jobs_columns, table_of_jobs};
+ghost use Rattle.page_pages.specs.DeskAccounts.{account_end, account_forms, account_lists, account_start, desk_account_page, desk_acts, desk_buttons, desk_cells, desk_content, desk_job, give_back, job_end, jobs_card, jobs_columns, plain_state, table_of_jobs};
 ghost use Rattle.page_pages.specs.DeskForms.{desk_links, give_back_form, grant_form};
 ghost use Rattle.page_pages.specs.DeskGrants.{grants_card};
 ghost use Rattle.page_pages.specs.Ended.{ended_card};
@@ -26,8 +26,8 @@ use crate::markup::{
 use crate::owner::put_account_title;
 use crate::phase::{Phase, phase_of, sign, word};
 use crate::texts::{
-    ACTS, COPIES, DESK, DEVICE, FILES, JOB, MADE, NO_MONTH_LEFT, NOTHING_WAITS, NUMBER, PAGES,
-    STATE, WAITING,
+    ACTS, COPIES, DESK, DEVICE, FILES, JOB, MADE, NO_MONTH_LEFT, NOTHING, NOTHING_WAITS, NUMBER,
+    PAGES, STATE, WAITING,
 };
 use crate::waiting::{
     name_words, put_cancel_button, put_counts, put_hold_buttons, put_job_name, put_job_state,
@@ -199,9 +199,17 @@ fn put_desk_cells(out: &mut Vec<u8>, phase: Phase, job: &Job) -> Result<(), Allo
     ensures { OnOk result (out.new.items ≡ out.old.items ++ desk_cells phase job.now) }
 {
     put_job_name(out, job.job, name_words(job.name.as_slice()))?;
-    put_job_state(out, sign(phase), word(phase), "")?;
-    out.extend_from_slice(END_OF_STATE.as_bytes())?;
+    put_plain_state(out, phase)?;
     put_counts(out, phase, &job.standing)
+}
+
+/// Appends how a job stands.
+#[tactic(auto, using(std::proofs::Common::append_assoc), unfolding(crate::specs::DeskAccounts::plain_state))]
+fn put_plain_state(out: &mut Vec<u8>, phase: Phase) -> Result<(), AllocError>
+    ensures { OnOk result (out.new.items ≡ out.old.items ++ plain_state phase) }
+{
+    put_job_state(out, sign(phase), word(phase), NOTHING)?;
+    out.extend_from_slice(END_OF_STATE.as_bytes())
 }
 
 /// Appends the form of a job, with a button for each act of an operator that may go through.

@@ -2,7 +2,7 @@
 //! a page costs there.
 
 ghost use Rattle.std.specs.Prelude.{◌≡◌, ◌++◌, OnOk, flat_map};
-ghost use Rattle.page_pages.specs.DeskDevices.{desk_columns, desk_device, desk_row, devices_page, devices_table, devices_title, other_label, other_state, rate_form, switch_form, table_of_devices};
+ghost use Rattle.page_pages.specs.DeskDevices.{desk_columns, desk_device, desk_row, devices_head, devices_page, devices_start, devices_table, devices_title, other_label, other_state, rate_form, switch_form, table_of_devices};
 ghost use Rattle.page_pages.specs.DeskForms.{desk_links, device_form};
 ghost use Rattle.page_pages.specs.Devices.{on_sign, on_word};
 ghost use Rattle.page_pages.specs.Frames.{card, document, foot, remark, top};
@@ -25,15 +25,31 @@ use std::alloc::AllocError;
 pub fn put_devices_page(out: &mut Vec<u8>, devices: &[Device]) -> Result<(), AllocError>
     ensures { OnOk result (out.new.items ≡ out.old.items ++ devices_page devices.now) }
 {
-    put_document(out, DEVICES.as_bytes())?;
-    out.extend_from_slice(DESK_SCRIPTS.as_bytes())?;
-    put_top(out, DESK)?;
-    put_desk_links(out)?;
-    put_devices_title(out)?;
+    put_devices_start(out)?;
     put_devices_card(out, devices)?;
     put_device_form(out)?;
     put_foot(out)?;
     out.extend_from_slice(END_OF_PAGE.as_bytes())
+}
+
+/// Appends the start of the page, with its heading.
+#[tactic(auto, using(std::proofs::Common::append_assoc), unfolding(crate::specs::DeskDevices::devices_start))]
+fn put_devices_start(out: &mut Vec<u8>) -> Result<(), AllocError>
+    ensures { OnOk result (out.new.items ≡ out.old.items ++ devices_start) }
+{
+    put_devices_head(out)?;
+    put_top(out, DESK)?;
+    put_desk_links(out)?;
+    put_devices_title(out)
+}
+
+/// Appends the title, and the scripts.
+#[tactic(auto, using(std::proofs::Common::append_assoc), unfolding(crate::specs::DeskDevices::devices_head))]
+fn put_devices_head(out: &mut Vec<u8>) -> Result<(), AllocError>
+    ensures { OnOk result (out.new.items ≡ out.old.items ++ devices_head) }
+{
+    put_document(out, DEVICES.as_bytes())?;
+    out.extend_from_slice(DESK_SCRIPTS.as_bytes())
 }
 
 /// Appends the card of the devices.
