@@ -1,9 +1,9 @@
-"""A browser without a window, for tools/page-tries: what the tries ask of a page, over Debian's chromium or firefox-esr."""
+"""A browser without a window, for tools/page-tries: what tries ask of a page, in Debian's chromium or firefox-esr."""
 import base64
 import json
 from typing import Any, NamedTuple
 
-from station_room import Wrong, wait_until, want
+from station_room import want
 
 MOST_WAIT = 60
 # Zoom as WCAG 2.2, 1.4.10 tries it: by four, in a window of 1280 by 1024.
@@ -11,7 +11,10 @@ ZOOM, ZOOMED = 4, (320, 256)
 
 
 class Node(NamedTuple):
-    """What a reader of a screen is told of a place: ARIA's word for its role, its name, what describes it, and of its states those that it has."""
+    """What a reader of a screen is told of a place: ARIA's word for its role, its name, what describes it, and its states.
+
+    Of a place that is read aloud when it changes, the state `live` says how, and `text` what it says.
+    """
 
     role: str
     name: str
@@ -22,9 +25,9 @@ class Node(NamedTuple):
 class Page:
     """A page, up to the end of the block.
 
-    A browser has of its own: `run`, `go`, `wait_for_load`, `press`, `mouse`, `type`, `choose`; `resize`, `zoom`, `write_larger`, `be`,
-    `force_colours`, `allow_scripts`, `front`; `tree`, `announced`, `png`, `pdf`; and the lists `alerts`, of dialogs, and `blocked`, of
-    what the page's policy forbade and which faults its scripts had.
+    A browser has of its own: `run`, `go`, `wait_for_load`, `press`, `mouse`, `type`, `choose`; `resize`, `zoom`,
+    `write_larger`, `be`, `be_in`, `force_colours`, `allow_scripts`, `front`; `tree`, `png`, `pdf`; and the lists `alerts`, of
+    dialogs, and `blocked`, of what the page's policy forbade and which faults its scripts had.
     """
 
     def __enter__(self):
@@ -71,6 +74,3 @@ class Page:
         """As it comes out on A4."""
         with open(path, 'wb') as file:
             file.write(base64.b64decode(self.pdf()))
-
-
-__all__ = ['MOST_WAIT', 'Node', 'Page', 'Wrong', 'ZOOM', 'ZOOMED', 'wait_until', 'want']

@@ -114,7 +114,8 @@ class ChromiumPage(Page):
 
     def zoom(self):
         """To the pages a window by four is a fourth of it, with four times the dots. The DevTools know of no other."""
-        self.ask('Emulation.setDeviceMetricsOverride', width=ZOOMED[0], height=ZOOMED[1], deviceScaleFactor=ZOOM, mobile=False)
+        width, height = ZOOMED
+        self.ask('Emulation.setDeviceMetricsOverride', width=width, height=height, deviceScaleFactor=ZOOM, mobile=False)
 
     def write_larger(self, by):
         """The letters alone, as who sets a larger font in the browser."""
@@ -148,7 +149,8 @@ class ChromiumPage(Page):
     def run(self, script):
         """The value of an expression, for which it is waited."""
         told = self.ask('Runtime.evaluate', expression=script, returnByValue=True, awaitPromise=True)
-        want('exceptionDetails' not in told, f'{script[:200]}: {told.get("exceptionDetails", {}).get("exception", {}).get("description")}')
+        fault = told.get('exceptionDetails', {}).get('exception', {}).get('description')
+        want('exceptionDetails' not in told, f'{script[:200]}: {fault}')
         return told['result'].get('value')
 
     def note(self, told):
@@ -166,10 +168,11 @@ class ChromiumPage(Page):
     def listen(self):
         """Keeps what came of this page beside answers."""
         self.run('1')
-        mine = [told for told in self.browser.events if told.get('sessionId') == self.session]
-        self.browser.events = collections.deque(told for told in self.browser.events if told.get('sessionId') != self.session)
-        for told in mine:
-            self.note(told)
+        told = [*self.browser.events]
+        self.browser.events = collections.deque(one for one in told if one.get('sessionId') != self.session)
+        for one in told:
+            if one.get('sessionId') == self.session:
+                self.note(one)
 
     @property
     def alerts(self):
@@ -206,14 +209,14 @@ class ChromiumPage(Page):
 
     def choose(self, selector, path):
         """A file, for a field of one."""
-        found = self.ask('Runtime.evaluate', expression=f'document.querySelector({json.dumps(selector)})')['result']['objectId']
-        self.ask('DOM.setFileInputFiles', files=[path], objectId=found)
+        found = self.ask('Runtime.evaluate', expression=f'document.querySelector({json.dumps(selector)})')
+        self.ask('DOM.setFileInputFiles', files=[path], objectId=found['result']['objectId'])
 
     def press(self, key, shift=False):
         code, text = KEYS[key]
         for kind in ('keyDown', 'keyUp'):
-            self.ask('Input.dispatchKeyEvent', type=kind, key=key, code='Space' if key == ' ' else key, windowsVirtualKeyCode=code, modifiers=8 * shift,
-                     **({'text': text} if text and kind == 'keyDown' else {}))
+            self.ask('Input.dispatchKeyEvent', type=kind, key=key, code='Space' if key == ' ' else key, windowsVirtualKeyCode=code,
+                     modifiers=8 * shift, **({'text': text} if text and kind == 'keyDown' else {}))
 
     # ---- what others are told of it
 
@@ -226,7 +229,8 @@ class ChromiumPage(Page):
             mine = None if node.get('ignored') else read_node(node)
             if mine:
                 told.append(mine)
-            text = mine.name if mine and mine.role == 'StaticText' else ' '.join(filter(None, (walk(by_id[child]) for child in node.get('childIds', []) if child in by_id)))
+            texts = [walk(by_id[child]) for child in node.get('childIds', []) if child in by_id]
+            text = mine.name if mine and mine.role == 'StaticText' else ' '.join(filter(None, texts))
             if mine and 'live' in mine.states:
                 mine.states['text'] = ' '.join(text.split())
             return text

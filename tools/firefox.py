@@ -45,8 +45,8 @@ WATCH = '''window.dialogsTold = [];
 Services.obs.addObserver((dialog) => window.dialogsTold.push(String(dialog.Dialog?.args?.text)), 'common-dialog-loaded');'''
 
 TREE = '''const service = Cc['@mozilla.org/accessibilityService;1'].getService(Ci.nsIAccessibilityService);
-const STATES = Object.fromEntries(['checked', 'pressed', 'focused', 'expanded', 'collapsed', 'unavailable', 'invalid', 'required']
-  .map((name) => [name, Ci.nsIAccessibleStates['STATE_' + name.toUpperCase()]]));
+const NAMES = ['checked', 'pressed', 'focused', 'expanded', 'collapsed', 'unavailable', 'invalid', 'required'];
+const STATES = Object.fromEntries(NAMES.map((name) => [name, Ci.nsIAccessibleStates['STATE_' + name.toUpperCase()]]));
 const told = [];
 const walk = (it) => {
   const bits = {}, high = {};
@@ -169,7 +169,8 @@ class FirefoxPage(Page):
 
     def __init__(self, browser, handle, width, height):
         self.browser, self.handle, self.is_forced, self.larger = browser, handle, False, 1
-        self.tab, self.since, self.dialogs = browser.chrome('return [gBrowser.selectedBrowser.browserId, Date.now(), window.dialogsTold.length];')
+        told = browser.chrome('return [gBrowser.selectedBrowser.browserId, Date.now(), window.dialogsTold.length];')
+        self.tab, self.since, self.dialogs = told
         self.resize(width, height)
 
     def close(self):
@@ -189,15 +190,17 @@ class FirefoxPage(Page):
     def chrome(self, script, *words):
         """What a script of the browser's own gives, of this tab."""
         self.browser.enter(self.handle)
-        return self.browser.chrome(f'const browser = [...gBrowser.browsers].find((one) => one.browserId === {self.tab});\n{script}', *words)
+        find = f'const browser = [...gBrowser.browsers].find((one) => one.browserId === {self.tab});\n'
+        return self.browser.chrome(find + script, *words)
 
     # ---- how it looks
 
     def resize(self, width, height=900):
         self.chrome('''browser.fullZoom = 1;
             for (const [name, size] of [['width', arguments[0]], ['height', arguments[1]]])
-              for (const front of ['', 'min-', 'max-']) browser.style.setProperty(front + name, size + 'px', 'important');''', width, height)
-        wait_until(lambda: self.run('[innerWidth, innerHeight]') == [width, height], 20, f'a window of {width} by {height}')
+              for (const front of ['', 'min-', 'max-']) browser.style.setProperty(front + name, size + 'px', 'important');''',
+                    width, height)
+        wait_until(lambda: self.run('[innerWidth, innerHeight]') == [width, height], 20, f'{width} by {height}')
 
     def zoom(self):
         """As by control and plus."""
@@ -211,7 +214,8 @@ class FirefoxPage(Page):
         self.chrome('''for (const [name, size] of [['variable', 16], ['monospace', 13]])
             Services.prefs.setIntPref('font.size.' + name + '.x-western', Math.round(size * arguments[0]));''', by)
         self.ask('WebDriver:Refresh')
-        wait_until(lambda: self.run('parseFloat(getComputedStyle(document.documentElement).fontSize)') == 16 * by, 20, 'the letters')
+        size = 'parseFloat(getComputedStyle(document.documentElement).fontSize)'
+        wait_until(lambda: self.run(size) == 16 * by, 20, 'the letters')
 
     def be(self, look):
         """Light or dark."""
@@ -223,12 +227,13 @@ class FirefoxPage(Page):
         self.chrome('browser.browsingContext.timezoneOverride = arguments[0];', zone)
 
     def force_colours(self, look):
-        """Black on white, or white on black, as who sets colours of their own in place of the pages'. With none the pages have theirs."""
+        """Black on white, or white on black, as who sets colours of their own in place of the pages'. With none the pages'."""
         self.is_forced = look is not None
         colours = ['#ffffff', '#000000', '#ffff00'] if look == 'dark' else ['#000000', '#ffffff', '#0000ee']
         self.chrome('''Services.prefs.setIntPref('browser.display.document_color_use', arguments[0] ? 2 : 0);
             Services.prefs.setBoolPref('browser.display.use_system_colors', false);
-            for (const end of ['', '.dark']) ['display.foreground', 'display.background', 'anchor', 'visited', 'active'].forEach((name, place) =>
+            const names = ['display.foreground', 'display.background', 'anchor', 'visited', 'active'];
+            for (const end of ['', '.dark']) names.forEach((name, place) =>
               Services.prefs.setCharPref('browser.' + name + '_color' + end, arguments[1][Math.min(place, 2)]));
             browser.browsingContext.prefersColorSchemeOverride = arguments[0] ?? 'none';''', look, colours)
         wait_until(lambda: self.run('matchMedia("(forced-colors: active)").matches') == self.is_forced, 20, 'the colours')
@@ -243,7 +248,8 @@ class FirefoxPage(Page):
 
     def run(self, script):
         """The value of an expression, for which it is waited."""
-        told = self.ask('WebDriver:ExecuteAsyncScript', script=EVALUATE % script, args=[], scriptTimeout=1000 * MOST_WAIT, sandbox=None)['value']
+        words = {'script': EVALUATE % script, 'args': [], 'scriptTimeout': 1000 * MOST_WAIT, 'sandbox': None}
+        told = self.ask('WebDriver:ExecuteAsyncScript', **words)['value']
         want(told, WENT[0])
         want(told[0] == 'value', f'{script[:200]}: {told[1]}')
         return None if told[1] is None else json.loads(told[1])
@@ -280,7 +286,8 @@ class FirefoxPage(Page):
 
     def mouse(self, x, y):
         to = {'type': 'pointerMove', 'x': round(x), 'y': round(y), 'duration': 0, 'origin': 'viewport'}
-        self.act('pointer', [to, {'type': 'pointerDown', 'button': 0}, {'type': 'pointerUp', 'button': 0}], parameters={'pointerType': 'mouse'})
+        press = [{'type': kind, 'button': 0} for kind in ('pointerDown', 'pointerUp')]
+        self.act('pointer', [to, *press], parameters={'pointerType': 'mouse'})
 
     def act(self, kind, acts, **more):
         self.ask('WebDriver:PerformActions', actions=[{'type': kind, 'id': kind, 'actions': acts, **more}])
