@@ -62,6 +62,22 @@ def paths(house):
 
 
 @attack('proxy', PROXY)
+def of_browsers(house):
+    """What a site has a browser send, which knows its user's password, makes no job."""
+    before = house.count('bob')
+    heads = ['Origin: https://evil.example', 'Origin: null', 'Origin:', 'Origin: https://printroom.example', 'ORIGIN: https://evil.example',
+             *(f'Sec-Fetch-Site: {site}' for site in ('cross-site', 'same-site', 'same-origin', 'none', ''))]
+    told = {(head, kind): ask(CLIENTS, '/ipp/print/bob', 'POST', [f'Content-Type: {kind}', head], print_job('bob'), 'bob').status
+            for head in heads for kind in ('application/ipp', 'text/plain')}
+    want_untouched(house, before, 'bob')
+    want(set(told.values()) <= {403, 415} and all(told[head, 'application/ipp'] == 403 for head in heads), told)
+    right = ask(CLIENTS, '/ipp/print/bob', 'POST', ['Content-Type: application/ipp'], print_job('bob'), 'bob')
+    want(right.status == 200 and house.count('bob') == before + 1, f'without such a field: {right.status}')
+    house.clear('bob')
+    return f'{len(told)} requests with an Origin or a Sec-Fetch-Site: refused; the one without was taken'
+
+
+@attack('proxy', PROXY)
 def smuggled(house):
     """No request within a request reaches kate's account."""
     inner = raw('/ipp/print/kate', print_job('kate'))
