@@ -43,7 +43,7 @@ fn put_byte(out: &mut Vec<u8>, byte: u8) -> Result<(), AllocError>
 }
 
 /// Whether the byte is a control of ASCII: below 32, or 127.
-fn is_control(byte: u8) -> bool
+pub fn is_control(byte: u8) -> bool
     ensures { result ≡ is_control byte }
 {
     byte < 32 || byte == 127

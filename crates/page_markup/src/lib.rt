@@ -8,6 +8,7 @@ mod moment;
 mod piece;
 mod texts;
 
+pub use escape::is_control;
 pub use laws::{is_read_back, never_marks_up};
 pub use moment::{day_in_month, known, put_month_number};
 pub use piece::{Piece, put_all, signed_text};

@@ -22,7 +22,8 @@ use Rattle.page_pages.specs.declared.statement_rows.TheConstants.{COLUMNS, END_O
 -- their wide forms, which begin with the byte 239.
 abbrev pub is_formula_sign : ℕ → Bool
 is_formula_sign byte =
-    nat_lt byte 33 || (byte == 43 || (byte == 45 || (byte == 61 || (byte == 64 || (byte == 127 || byte == 239)))))
+    nat_lt byte 33
+    || (byte == 43 || (byte == 45 || (byte == 61 || (byte == 64 || (byte == 127 || byte == 239)))))
 
 abbrev pub may_be_formula : List ℕ → Bool
 may_be_formula [] = false

@@ -4,7 +4,6 @@
 ghost use Rattle.std.specs.Prelude.{◌≡◌, ◌++◌, ◌∷◌, ◌≤◌, OnOk, flat_map};
 ghost use Rattle.std.specs.Fmt.{decimal};
 ghost use Rattle.account_rules.specs.Limits.{most_units};
-ghost use Rattle.page_markup.specs.Escaping.{is_control};
 ghost use Rattle.page_markup.specs.Moments.{two_digits};
 ghost use Rattle.page_pages.specs.StatementRows.{balance_row, cell_byte, charge_cell, closing_row, day_text, end_cell, grant_line, grant_line_if_then, is_formula_sign, job_ending, job_line, job_line_if_then, mark_of, may_be_formula, name_cell, opening_row, statement_rows};
 
@@ -13,7 +12,7 @@ use crate::movement::{is_then, is_within};
 use crate::phase::{phase_of, word};
 use crate::statement::{Statement, closing, opening};
 use account_rules::{Grant, Job, Moment, month_of};
-use page_markup::{day_in_month, known, put_month_number, signed_text};
+use page_markup::{day_in_month, is_control, known, put_month_number, signed_text};
 use std::alloc::AllocError;
 
 const COLUMNS: &str = "what,date,job,name,state,device,units\r\n";
@@ -304,11 +303,4 @@ fn put_cell_byte(out: &mut Vec<u8>, byte: u8) -> Result<(), AllocError>
         return out.extend_from_slice(b" ");
     }
     out.extend_from_slice(&[byte])
-}
-
-/// Whether the byte is a control of ASCII: below 32, or 127.
-fn is_control(byte: u8) -> bool
-    ensures { result ≡ is_control byte }
-{
-    byte < 32 || byte == 127
 }
