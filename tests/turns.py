@@ -200,7 +200,8 @@ def lines_that_are_no_text(folder):
     """A control character, as in what a site has a browser send to such a port, ends the connection: nothing behind it is done."""
     form = b'POST / HTTP/1.1\r\nHost: 127.0.0.1\r\nContent-Type: text/plain\r\nContent-Length: 27\r\n\r\nopen mallory\nrate d1 9\nend\n'
     hello = b'\x16\x03\x01\x00\x45\x01\x00\x00\x41\x03\x03' + b'ticket\nopen mallory\nrate d1 9\nend\n'
-    others = (form, hello, b'open mallory\r\nopen mallory\n', b'\x1f\nopen mallory\n', b'open\tmallory\nopen mallory\n')
+    others = (form, hello, b'open mallory\r\nopen mallory\n', b'\x1f\nopen mallory\n', b'open\tmallory\nopen mallory\n',
+              b'open\x7fmallory\nopen mallory\n')
     with serving(folder) as room:
         for said in others:
             for address in (room.operators, room.stations):

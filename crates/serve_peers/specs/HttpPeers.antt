@@ -1,5 +1,6 @@
 -- What a turn of a peer that speaks HTTP keeps, and what it comes to (all this project's own).
-use Rattle.std.specs.Prelude.{◌≡◌, ◌⊎◌, ◌<◌, ℕ, Bool, List, [], ◌++◌, length, IsTrue}
+use Rattle.std.specs.Prelude.{◌≡◌, ◌⊎◌, ◌<◌, ◌≤◌, ◌+◌, ◌*◌, ℕ, Bool, List, [], ◌++◌, length, max, min, IsTrue}
+use Rattle.input_http.specs.Limits.{longest_body, longest_head}
 use Rattle.http.specs.declared.request.Request.{Request}
 use Rattle.http_server.specs.Connection.{config_of, history}
 use Rattle.http_server.specs.Exchange.{Call, Calls}
@@ -23,9 +24,22 @@ patience_of peer = peer.progress.patience
 abbrev pub came_of : HttpPeer → ℕ
 came_of peer = peer.load.coming
 
+-- A buffer that had to hold so many bytes takes these: it grows to twice as many, but no further than
+-- to the longest request, unless it has to.
+abbrev pub buffer_for : ℕ → ℕ
+buffer_for most = max (min (most * 2) (longest_head + longest_body)) most
+
+-- how many bytes its buffer of requests takes
+abbrev pub input_buffer : HttpPeer → ℕ
+input_buffer peer = buffer_for peer.load.most
+
 -- an answer waits to go
 abbrev pub HasAnswer : HttpPeer → Type 0
 HasAnswer peer = 0 < length (history (connection_of peer)).pending
+
+-- it has to send something next: no answer waits to go, and no more came than a head may have
+abbrev pub HasToSend : HttpPeer → Type 0
+HasToSend peer = ¬ (HasAnswer peer) × (came_of peer ≤ longest_head)
 
 -- its requests so far, each with its answer
 abbrev pub calls_of : HttpPeer → List Call

@@ -2,6 +2,8 @@
 use Rattle.std.specs.Prelude.{◌≡◌, ◌≢◌, ◌⊎◌, ◌==◌, ◌<◌, ⊤, ℕ, Bool, false, List, [], ◌∷◌, ◌++◌, length, None, IsTrue}
 use Rattle.std.specs.List.{All, flat_map}
 use Rattle.sqlite_trees.specs.declared.store.Store.{Ghosts}
+use Rattle.serve_peers.specs.Patience.{doing_of}
+use Rattle.serve_peers.specs.declared.patience.Doing.TheVariants.{Holds}
 use Rattle.serve_peers.specs.Lines.{BeginsNoText, IsTold, ended_of, has_control, input_of, line_end, output_of, received_of, sent_of, side_of}
 use Rattle.serve_peers.specs.LineTexts.{bad_line_text}
 use Rattle.serve_peers.specs.declared.line_connection.LineConnection.{LineConnection}
@@ -22,6 +24,10 @@ patience_of peer = peer.progress.patience
 -- all was said, and what still comes is dropped
 abbrev pub has_parted : LinePeer → Bool
 has_parted peer = peer.progress.parts
+
+-- it has to send something next: no answer waits to go, and no line waits for memory
+abbrev pub HasToSend : LinePeer → Type 0
+HasToSend peer = (output_of (lines_of peer) ≡ []) × (doing_of (patience_of peer) ≢ Holds)
 
 -- a line as it came, with what ended it, and what was told
 abbrev pub LineCall : Type 0

@@ -1,10 +1,11 @@
 -- Rule: What a line is answered, and what it does to the rooms (all this project's own).
-use Rattle.std.specs.Prelude.{◌≡◌, ◌⊎◌, ◌==◌, ◌||◌, ◌+◌, ℕ, Bool, true, false, List, ◌∷◌, ◌++◌, [], codes, drop, length, nat_lt, take, Option, None, Some, IsTrue, Result}
+use Rattle.std.specs.Prelude.{◌≡◌, ◌⊎◌, ◌==◌, ◌||◌, ◌+◌, ◌-◌, ◌^◌, ℕ, Bool, true, false, List, ◌∷◌, ◌++◌, [], codes, drop, length, min, take, Option, None, Some, IsTrue, Result}
 use Rattle.std.specs.Io.KnownBytes.{Appends, Consumes}
 use Rattle.std.specs.List.{flat_map, list_any, position, starts_with}
 use Rattle.sqlite_trees.specs.declared.store.Store.{Ghosts}
 use Rattle.account_machine.specs.declared.event.Reply.{Reply}
 use Rattle.account_machine.specs.declared.verdict.Answered.{Answered}
+use Rattle.page_markup.specs.Escaping.{is_control}
 use Rattle.input_lines.specs.Lines.{IsAllowed}
 use Rattle.input_lines.specs.Asking.{IsQuestionOf, is_of_station}
 use Rattle.input_lines.specs.Backups.{IsBackupOf}
@@ -46,6 +47,11 @@ ended_of connection = connection.has_ended
 abbrev pub output_of : LineConnection → List ℕ
 output_of connection = connection.output.items
 
+-- how many bytes wait, in and out, as far as a word of 64 bits counts
+abbrev pub bytes_held : LineConnection → ℕ
+bytes_held connection =
+    min (length (input_of connection) + length (output_of connection)) (2 ^ 64 - 1)
+
 -- all that was read on it
 abbrev pub received_of : LineConnection → List ℕ
 received_of connection = flat_map (λ read. drop read.1 read.0.items) connection.reads.items
@@ -84,7 +90,7 @@ line_end input = position (λ b. b == 10) input
 -- A control character of ASCII stands in it. No line has one, but each line of the head of a request
 -- over HTTP ends with one, and TLS begins with one.
 abbrev pub has_control : List ℕ → Bool
-has_control line = list_any (λ b. nat_lt b 32) line
+has_control line = list_any is_control line
 
 -- the first line that came has one
 abbrev pub BeginsNoText : (input : List ℕ) → Type 0

@@ -1,6 +1,7 @@
 //! How many bytes a connection of HTTP holds of what came, and when that is large.
 
 ghost use Rattle.std.specs.Prelude.{◌≡◌, nat_lt};
+ghost use Rattle.serve_peers.specs.HttpPeers.{buffer_for};
 
 use input_http::{BODY_LIMIT, HEAD_LIMIT};
 
@@ -53,7 +54,9 @@ impl Load {
 
     /// How many bytes the buffer takes: it grows to twice what it has to hold, but no further than
     /// to the longest request, unless it has to.
-    pub(crate) fn bytes_held(&self) -> usize {
+    pub(crate) fn bytes_held(&self) -> usize
+        ensures { result ≡ buffer_for self.now.most }
+    {
         self.most.saturating_mul(2).min(LONGEST).max(self.most)
     }
 

@@ -1,7 +1,7 @@
 //! A peer that speaks HTTP: its connection, what each of its turns does, how long it may take, and
 //! how much it holds.
 
-ghost use Rattle.std.specs.Prelude.{◌≡◌, ◌≢◌, ◌+◌, ◌<◌, ◌≤◌, ◌↔◌, length, nat_lt, IsFalse, IsTrue, Some};
+ghost use Rattle.std.specs.Prelude.{◌≡◌, ◌≢◌, ◌+◌, ◌*◌, ◌<◌, ◌≤◌, ◌↔◌, length, nat_lt, IsFalse, IsTrue, Some};
 ghost use Rattle.input_http.specs.Limits.{longest_body, longest_head};
 ghost use Rattle.http_server.specs.Connection.{config_of, history};
 ghost use Rattle.http_server.specs.History.{new_history};
@@ -41,7 +41,7 @@ impl Drop for HttpPeer {
 }
 
 impl HttpPeer {
-    ghost use Rattle.serve_peers.specs.HttpPeers.{CallsService, GoesOn, HasAnswer, IsAtRest, IsLater, IsStill, KeepsLimits, calls_of, came_of, connection_of, patience_of};
+    ghost use Rattle.serve_peers.specs.HttpPeers.{CallsService, GoesOn, HasAnswer, HasToSend, IsAtRest, IsLater, IsStill, KeepsLimits, calls_of, came_of, connection_of, input_buffer, patience_of};
     ghost use Rattle.serve_peers.specs.ProofHttpSteps.{ReadsBytes, WritesBytes};
 
     /// A peer that came just now. It takes no memory.
@@ -194,7 +194,11 @@ impl HttpPeer {
 
     /// How many bytes its buffers take: that of requests, and that of answers, which grows to twice
     /// what waits.
-    pub fn bytes_held(&self) -> usize {
+    pub fn bytes_held(&self) -> usize
+        ensures requests { input_buffer self.now ≤ result }
+        ensures answers { result ≤ input_buffer self.now
+            + 2 * length (history (connection_of self.now)).pending }
+    {
         let waiting = self.connection.output().len();
         self.load
             .bytes_held()
@@ -211,14 +215,16 @@ impl HttpPeer {
     /// Whether the peer has to send something next: no answer waits to go, and of a request no more
     /// came than a head may have.
     pub fn has_to_send(&self) -> bool
-        ensures none_waits { IsTrue result → ¬ (HasAnswer self.now) }
-        ensures few { IsTrue result → came_of self.now ≤ longest_head }
+        ensures { IsTrue result ↔ HasToSend self.now }
     {
         !self.has_output() && self.load.came_so_far() <= HEAD_LIMIT
     }
 
     /// Whether a large answer waits to go.
-    pub fn has_large_answer(&self) -> bool {
+    pub fn has_large_answer(&self) -> bool
+        ensures { IsTrue result
+            → LARGE < length (history (connection_of self.now)).pending }
+    {
         self.connection.output().len() > LARGE
     }
 

@@ -1,13 +1,13 @@
 //! The buffers of a connection of lines, and how its next line is answered: by an event, a
 //! question, a step of a backup, or a refusal. `LinePeer` drives it.
-ghost use Rattle.std.specs.Prelude.{◌≡◌, ◌≢◌, ◌<◌, ◌≤◌, ◌+◌, ◌++◌, [], false, length, nat_lt, take, true, IfOk, IfSome, OnErr, OnOk, Ok, Some};
+ghost use Rattle.std.specs.Prelude.{◌≡◌, ◌≢◌, ◌<◌, ◌+◌, ◌++◌, [], false, length, nat_lt, take, true, IfOk, IfSome, OnErr, OnOk, Ok, Some};
 ghost use Rattle.std.specs.Io.KnownBytes.{Keeps};
 ghost use Rattle.input_lines.specs.Asking.{IsQuestionOf};
 ghost use Rattle.input_lines.specs.Backups.{IsBackupOf};
 ghost use Rattle.serve_peers.specs.LineTexts.{bad_line_text, has_to_warn};
 ghost use Rattle.serve_peers.specs.OwnDevices.{is_own};
 ghost use Rattle.serve_peers.specs.Turns.{Continues};
-ghost use Rattle.serve_peers.specs.Lines.{AnswersLine, Comes, IsEntryOf, IsNewOf, IsNoText, IsPutOff, IsQuiet, IsWaiting, Leaves, LosesAnswer, MayAsk, asks_documents, ended_of, grammar_of, has_control, input_of, line_end, output_of, received_of, sent_of, side_of, longest_line};
+ghost use Rattle.serve_peers.specs.Lines.{AnswersLine, Comes, IsEntryOf, IsNewOf, IsNoText, IsPutOff, IsQuiet, IsWaiting, Leaves, LosesAnswer, MayAsk, asks_documents, bytes_held, ended_of, grammar_of, has_control, input_of, line_end, output_of, received_of, sent_of, side_of, longest_line};
 
 use crate::entry::Entry;
 use crate::line_text::{put_answer, put_bad, put_refused, put_told};
@@ -18,6 +18,7 @@ use bytes::{Buf, BufMut, BytesMut};
 use http_server::{Log as History, Rope};
 use input_fields::FieldFault;
 use input_lines::{BackupLine, Grammar, read_backup, read_question, read_station_question};
+use page_markup::is_control;
 use serve_log::{Door, LineRefusal};
 use sqlite::Alter;
 use std::alloc::{AllocError, Global};
@@ -327,7 +328,7 @@ impl LineConnection {
 
     /// How many bytes wait: those that came, and those that are to go.
     pub fn bytes_held(&self) -> usize
-        ensures { result ≤ length (input_of self.now) + length (output_of self.now) }
+        ensures { result ≡ bytes_held self.now }
     {
         self.input.len().saturating_add(self.output.len())
     }
@@ -369,7 +370,7 @@ fn line_end(input: &[u8]) -> Option<usize>
 fn has_control(line: &[u8]) -> bool
     ensures { result ≡ has_control line.now }
 {
-    line.iter().any(|byte| *byte < b' ')
+    line.iter().any(|byte| is_control(*byte))
 }
 
 /// Why a line that names no device of its door is refused: one that is no station's is bad there

@@ -1,11 +1,9 @@
 //! A peer that speaks lines: what each of its turns does with its connection, and how long it may
 //! take.
 
-ghost use Rattle.std.specs.Prelude.{◌≡◌, ◌≢◌, ◌≤◌, ◌+◌, [], false, length, nat_lt, IsFalse, IsTrue, Some};
+ghost use Rattle.std.specs.Prelude.{◌≡◌, ◌≢◌, ◌↔◌, false, length, nat_lt, IsFalse, IsTrue, Some};
 ghost use Rattle.serve_peers.specs.Turns.{Continues};
-ghost use Rattle.serve_peers.specs.Patience.{doing_of};
-ghost use Rattle.serve_peers.specs.declared.patience.Doing.TheVariants.{Holds};
-ghost use Rattle.serve_peers.specs.Lines.{IsNewOf, ended_of, input_of, output_of};
+ghost use Rattle.serve_peers.specs.Lines.{IsNewOf, bytes_held, ended_of, input_of, output_of};
 
 use crate::line_connection::Front;
 use crate::patience::Patience;
@@ -34,7 +32,7 @@ impl Drop for LinePeer {
 }
 
 impl LinePeer {
-    ghost use Rattle.serve_peers.specs.LinePeers.{HasTaken, TakesTurn, lines_of, patience_of};
+    ghost use Rattle.serve_peers.specs.LinePeers.{HasTaken, HasToSend, TakesTurn, lines_of, patience_of};
     ghost use Rattle.serve_peers.specs.ProofLineSteps.{IsEnded, IsNoLine, ReceivesBytes, SendsBytes, TakesStep};
 
     /// A peer that came just now. It takes no memory.
@@ -193,16 +191,14 @@ impl LinePeer {
     /// Whether the peer has to send something next: no answer waits to go, and no line waits for
     /// memory.
     pub fn has_to_send(&self) -> bool
-        ensures none_waits { IsTrue result → output_of (lines_of self.now) ≡ [] }
-        ensures none_held { IsTrue result → doing_of (patience_of self.now) ≢ Holds }
+        ensures { IsTrue result ↔ HasToSend self.now }
     {
         !self.has_output() && !self.progress.patience.is_held_back()
     }
 
     /// How many bytes wait: those that came, and those that are to go.
     pub fn bytes_held(&self) -> usize
-        ensures { result ≤ length (input_of (lines_of self.now))
-            + length (output_of (lines_of self.now)) }
+        ensures { result ≡ bytes_held (lines_of self.now) }
     {
         self.connection.bytes_held()
     }
