@@ -60,7 +60,7 @@ abbrev pub is_for : (month : ℕ) → Grant → Bool
 is_for month it = it.month == month
 
 -- so many months from 1970-01 on, the last first
-pub months_back : (count : ℕ) → List ℕ
+unfoldable pub months_back : (count : ℕ) → List ℕ
 months_back zero = []
 months_back (suc count) = (first_month + count) ∷ months_back count
 

@@ -276,7 +276,13 @@ fn may_be_formula(text: &[u8]) -> bool
 fn is_formula_sign(byte: u8) -> bool
     ensures { result ≡ is_formula_sign byte }
 {
-    byte < 33 || byte == b'+' || byte == b'-' || byte == b'=' || byte == b'@' || byte == 127 || byte == 239
+    byte < 33
+        || byte == b'+'
+        || byte == b'-'
+        || byte == b'='
+        || byte == b'@'
+        || byte == 127
+        || byte == 239
 }
 
 /// Appends the bytes of a text as they stand in a quoted cell.
