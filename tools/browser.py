@@ -25,9 +25,9 @@ class Node(NamedTuple):
 class Page:
     """A page, up to the end of the block.
 
-    A browser has of its own: `run`, `go`, `wait_for_load`, `press`, `mouse`, `type`, `choose`; `resize`, `zoom`,
-    `write_larger`, `be`, `be_in`, `force_colours`, `allow_scripts`, `front`; `tree`, `png`, `pdf`; and the lists `alerts`, of
-    dialogs, and `blocked`, of what the page's policy forbade and which faults its scripts had.
+    A browser has of its own: `run`, `go`, `reload`, `wait_for_load`, `press`, `mouse`, `type`, `choose`; `resize`, `zoom`,
+    `write_larger`, `be`, `be_in`, `force_colours`, `allow_scripts`, `send_also`, `front`; `tree`, `png`, `pdf`; and the lists
+    `alerts`, of dialogs, and `blocked`, of what the page's policy forbade and which faults its scripts had.
     """
 
     def __enter__(self):

@@ -141,6 +141,11 @@ class ChromiumPage(Page):
     def allow_scripts(self, allowed):
         self.ask('Emulation.setScriptExecutionDisabled', value=not allowed)
 
+    def send_also(self, **fields):
+        """Further fields of each request, as of a proxy."""
+        self.ask('Network.enable')
+        self.ask('Network.setExtraHTTPHeaders', headers=fields)
+
     def front(self):
         self.ask('Page.bringToFront')
 
@@ -199,6 +204,10 @@ class ChromiumPage(Page):
 
     def go(self, url):
         self.wait_for_load(lambda: self.ask('Page.navigate', url=url))
+
+    def reload(self):
+        """Again, also where it answers a form."""
+        self.wait_for_load(lambda: self.ask('Page.reload'))
 
     def mouse(self, x, y):
         for kind in ('mousePressed', 'mouseReleased'):

@@ -17,6 +17,8 @@ PREFERENCES = {
     'network.captive-portal-service.enabled': False,
     'network.connectivity-service.enabled': False,
     'network.auth.confirmAuth.enabled': False,
+    # Who loads an answer to a form again is not asked.
+    'dom.confirm_repost.testing.always_accept': True,
     'app.update.disabledForTesting': True,
     'browser.shell.checkDefaultBrowser': False,
     'browser.startup.page': 0,
@@ -40,9 +42,15 @@ EVALUATE = '''const told = arguments[arguments.length - 1];
   (value) => { let text = null; try { text = JSON.stringify(value) ?? null; } catch (fault) { } told(['value', text]); },
   (fault) => told(['fault', String(fault)]));'''
 
-# Keeps what each dialog says.
+# Keeps what each dialog says, and sends each tab's further fields.
 WATCH = '''window.dialogsTold = [];
-Services.obs.addObserver((dialog) => window.dialogsTold.push(String(dialog.Dialog?.args?.text)), 'common-dialog-loaded');'''
+window.fieldsSent = new Map();
+Services.obs.addObserver((dialog) => window.dialogsTold.push(String(dialog.Dialog?.args?.text)), 'common-dialog-loaded');
+Services.obs.addObserver((asked) => {
+  const to = asked.QueryInterface(Ci.nsIHttpChannel).loadInfo;
+  const fields = window.fieldsSent.get((to?.frameBrowsingContext ?? to?.browsingContext)?.top.browserId) ?? {};
+  for (const [name, value] of Object.entries(fields)) asked.setRequestHeader(name, value, false);
+}, 'http-on-modify-request');'''
 
 TREE = '''const service = Cc['@mozilla.org/accessibilityService;1'].getService(Ci.nsIAccessibilityService);
 const NAMES = ['checked', 'pressed', 'focused', 'expanded', 'collapsed', 'unavailable', 'invalid', 'required'];
@@ -241,6 +249,10 @@ class FirefoxPage(Page):
     def allow_scripts(self, allowed):
         self.chrome('browser.browsingContext.allowJavascript = arguments[0];', allowed)
 
+    def send_also(self, **fields):
+        """Further fields of each request, as of a proxy."""
+        self.chrome('window.fieldsSent.set(browser.browserId, arguments[0]);', fields)
+
     def front(self):
         self.browser.enter(self.handle, focus=True)
 
@@ -283,6 +295,10 @@ class FirefoxPage(Page):
 
     def go(self, url):
         self.ask('WebDriver:Navigate', url=url)
+
+    def reload(self):
+        """Again, also where it answers a form."""
+        self.wait_for_load(lambda: self.ask('WebDriver:Refresh'))
 
     def mouse(self, x, y):
         to = {'type': 'pointerMove', 'x': round(x), 'y': round(y), 'duration': 0, 'origin': 'viewport'}
