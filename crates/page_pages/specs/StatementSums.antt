@@ -1,6 +1,6 @@
 -- Rule: The sums of a statement for paper: how its balances come about, and the rows of its grants and
 -- its jobs.
-use Rattle.std.specs.Prelude.{ℕ, ◌+◌, ◌==◌, if◌then◌else◌, List, [], ◌∷◌, ◌++◌, codes, flat_map}
+use Rattle.std.specs.Prelude.{ℕ, ◌==◌, if◌then◌else◌, List, [], ◌∷◌, ◌++◌, codes, flat_map}
 use Rattle.std.specs.Fmt.{signed_decimal}
 use Rattle.account_rules.specs.declared.account.Grant.{Grant}
 use Rattle.account_rules.specs.declared.job.Job.{Job}
