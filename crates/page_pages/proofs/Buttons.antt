@@ -1,18 +1,16 @@
 -- The button Release is there exactly where a release goes through.
-use Rattle.std.proofs.Common.{◌≡◌, ◌≤◌, ℕ, ℤ, Bool, true, false, not, ◌==◌, nat_lt, cond, List, length, Option, Some, None, Result, Ok, Err, refl, sym, ap, ◌∙◌, arith}
-use Rattle.std.proofs.lemmas.Bool.Decides.{nat_tests}
-use Rattle.account_rules.specs.Effects.{after_release, impressions_of, is_incomplete, is_wrong_password, refused}
-use Rattle.account_rules.specs.Limits.{most_need}
+use Rattle.std.proofs.Common.{◌≡◌, ℕ, ℤ, Bool, true, false, not, ◌==◌, cond, List, length, Some, None, Result, Ok, Err, refl, sym, ap, ◌∙◌}
+use Rattle.account_rules.specs.Effects.{after_release, is_incomplete, refused}
 use Rattle.account_rules.specs.Moves.{cell}
 use Rattle.account_rules.specs.Quota.{exceeds}
 use Rattle.account_rules.specs.declared.job.Job.{Job}
 use Rattle.account_rules.specs.declared.job.JobState.{JobState}
-use Rattle.account_rules.specs.declared.job.JobState.TheVariants.{Held, Pending, Processing, Canceled, Aborted, Completed}
+use Rattle.account_rules.specs.declared.job.JobState.TheVariants.{Held, Pending}
 use Rattle.account_rules.specs.declared.job.Standing.{Standing}
 use Rattle.account_rules.specs.declared.refusal.Refusal.{Refusal}
 use Rattle.account_rules.specs.declared.refusal.Word.TheVariants as word
-use Rattle.page_pages.specs.ButtonLaws.{ButtonsRelease, PricesAreReserved, release_of}
-use Rattle.page_pages.specs.Offers.{need, offer, price}
+use Rattle.page_pages.specs.ButtonLaws.{ButtonsRelease, release_of}
+use Rattle.page_pages.specs.Offers.{need, offer}
 use Rattle.page_pages.specs.Phases.{held_phase, phase_in, printing_phase}
 use Rattle.page_pages.specs.Waiting.{buttons, cancel_button, job_acts, job_form, release_buttons}
 use Rattle.page_pages.specs.declared.offer.Terms.{Terms}

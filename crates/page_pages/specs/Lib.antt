@@ -24,6 +24,7 @@ pub mod Reasons
 pub mod Refusals
 pub mod Rooms
 pub mod StatementRows
+pub mod StatementSums
 pub mod Statements
 pub mod Tags
 pub mod Waiting

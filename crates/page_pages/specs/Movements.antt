@@ -25,6 +25,10 @@ abbrev pub is_since : (month : ℕ) (ended : Option ℕ) → Bool
 is_since month None = false
 is_since month (Some at) = nat_le month (month_at (min at last_moment))
 
+-- the month in which the statement is drawn up
+abbrev pub drawn_in : Statement → ℕ
+drawn_in it = month_at (min it.drawn_up last_moment)
+
 -- ---- the rows: what moved in these months
 
 -- each grant for one of them

@@ -1,10 +1,10 @@
 -- Rule: What a job that waits costs, whether its owner is offered to release it, and what helps
 -- where too little is left (all this project's own).
-use Rattle.std.specs.Prelude.{ℕ, ℤ, Bool, true, false, ◌&&◌, ◌||◌, not, ◌==◌, nat_lt, nat_le, if◌then◌else◌, List, [], ◌∷◌, ◌++◌, Option, Some, None, codes, find, pos}
+use Rattle.std.specs.Prelude.{ℕ, ℤ, Bool, ◌&&◌, ◌||◌, not, ◌==◌, nat_lt, nat_le, if◌then◌else◌, List, [], ◌∷◌, ◌++◌, Option, Some, None, codes, find}
 use Rattle.std.specs.Fmt.{signed_decimal}
 use Rattle.std.specs.List.{list_all}
 use Rattle.account_rules.specs.Limits.{most_need}
-use Rattle.account_rules.specs.Quota.{exceeds, left_of, need_of}
+use Rattle.account_rules.specs.Quota.{exceeds, need_of}
 use Rattle.account_rules.specs.declared.device.Device.{Device}
 use Rattle.account_rules.specs.declared.job.Standing.{Standing}
 use Rattle.page_markup.specs.Parts.{Part, html, Mark, Text, Number}
@@ -12,7 +12,7 @@ use Rattle.page_pages.specs.Phases.{sentence}
 use Rattle.page_pages.specs.Reasons.{quota_reason}
 use Rattle.page_pages.specs.declared.offer.Terms.{Terms}
 use Rattle.page_pages.specs.declared.phase.Phase.{Phase}
-use Rattle.page_pages.specs.declared.phase.Phase.TheVariants.{Incomplete, Locked, Uncounted, Ready, Released, Printing, Stopping, Printed, Canceled, Failed}
+use Rattle.page_pages.specs.declared.phase.Phase.TheVariants.{Incomplete, Locked, Uncounted, Ready}
 use Rattle.page_pages.specs.declared.texts.TheConstants.{AT_DEVICE, ENOUGH_FOR, IS_READY, IS_READY_ELSEWHERE, IS_READY_LATER, IS_SHORT, LITTLE_FOR, LITTLE_FOR_ALL, NOT_KNOWN, UNITS_NEEDED_BY_JOB}
 
 -- ---- where printing is cheapest, and where it is dearest

@@ -32,6 +32,7 @@ mod room;
 mod script;
 mod statement;
 mod statement_rows;
+mod statement_sums;
 mod style;
 mod texts;
 mod waiting;

@@ -10,7 +10,8 @@ ghost use Rattle.page_pages.specs.StatementRows.{balance_row, cell_byte, charge_
 use crate::ended::device_or_none;
 use crate::movement::{is_then, is_within};
 use crate::phase::{phase_of, word};
-use crate::statement::{Statement, closing, opening};
+use crate::statement::Statement;
+use crate::statement_sums::{closing, opening};
 use account_rules::{Grant, Job, Moment, month_of};
 use page_markup::{day_in_month, is_control, known, put_month_number, signed_text};
 use std::alloc::AllocError;

@@ -1,4 +1,4 @@
-use Rattle.std.proofs.Common.{rules, tests, ◌∙◌, sym}
+use Rattle.std.proofs.Common.{rules, tests, ◌∙◌}
 use Rattle.std.proofs.lemmas.Iterator.{YieldsList-from_slice}
 use Rattle.std.proofs.lemmas.Iterator.Search.{find_from_yields_List}
 use Rattle.page_pages.specs.Offers.{is_dearest}

@@ -1,6 +1,6 @@
 use Rattle.std.proofs.Common.{◌≡◌, ◌++◌, take, flat_map}
-use Rattle.page_pages.specs.Statements.{job_if_then}
-use Rattle.page_pages.proofs.statement.put_jobs_then.Given as goal
+use Rattle.page_pages.specs.StatementSums.{job_if_then}
+use Rattle.page_pages.proofs.statement_sums.put_jobs_then.Given as goal
 
 -- the jobs so far
 abbrev pub invariant-loop-job : goal.invariant-loop-job

@@ -1,6 +1,6 @@
 use Rattle.std.proofs.Common.{◌≡◌, ◌++◌, take, flat_map}
-use Rattle.page_pages.specs.Statements.{grant_if_then}
-use Rattle.page_pages.proofs.statement.put_grants_then.Given as goal
+use Rattle.page_pages.specs.StatementSums.{grant_if_then}
+use Rattle.page_pages.proofs.statement_sums.put_grants_then.Given as goal
 
 -- the grants so far
 abbrev pub invariant-loop-grant : goal.invariant-loop-grant

@@ -1,6 +1,0 @@
-use Rattle.page_pages.specs.Statements.{sums_before}
-use Rattle.page_pages.proofs.statement.put_sums_before.Goals as goal
-
-pub returns : goal.returns
-unfolding sums_before
-returns c = c.put_all.ensures
