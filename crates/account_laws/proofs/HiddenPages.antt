@@ -16,7 +16,8 @@ use Rattle.page_pages.specs.Owners.{content, lists, owner_document, owner_end, o
 use Rattle.page_pages.specs.Phases.{phase_in, phase_of, printing_phase, sign, word}
 use Rattle.page_pages.specs.Movements.{balance, charged_before, charged_since, charged_then, closing, given_back, granted_before, granted_then, is_then, opening}
 use Rattle.page_pages.specs.StatementRows.{closing_row, job_ending, job_line, job_line_if_then, opening_row, statement_rows}
-use Rattle.page_pages.specs.Statements.{heading, job_if_then, jobs_end, links, reserved_now, statement_grants, statement_in, statement_jobs, statement_page, statement_paper, statement_start, sums, sums_before, sums_then, title}
+use Rattle.page_pages.specs.Statements.{heading, links, statement_in, statement_page, statement_paper, statement_start, title}
+use Rattle.page_pages.specs.StatementSums.{job_if_then, jobs_end, reserved_now, statement_grants, statement_jobs, sums, sums_before, sums_then}
 use Rattle.page_pages.specs.declared.statement.Form.{Form}
 use Rattle.page_pages.specs.declared.statement.Form.TheVariants.{Paper, Csv}
 use Rattle.page_pages.specs.Waiting.{buttons, job_cells, job_form, job_row, table_of_waiting, waiting_card}
