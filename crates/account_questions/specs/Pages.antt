@@ -12,7 +12,7 @@ use Rattle.account_state.specs.Queues.{first_jobs, completed, not_completed}
 use Rattle.account_state.specs.Rooms.{RoomValue}
 use Rattle.account_state.specs.Sums.{charged_in, granted_to, reserved_in}
 
--- how many jobs that have ended the owner's page shows
+-- how many jobs that have ended the owner's page and that of the desk show
 abbrev pub most_shown : ℕ
 most_shown = 20
 

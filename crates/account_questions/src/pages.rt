@@ -16,7 +16,7 @@ use page_pages::{
 };
 use std::alloc::{AllocError, Global};
 
-/// How many jobs that have ended the owner's page shows.
+/// How many jobs that have ended the owner's page and that of the desk show.
 pub const MOST_SHOWN: u32 = 20;
 
 /// Writes the page of an account's owner as bytes.

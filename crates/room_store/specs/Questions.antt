@@ -103,7 +103,8 @@ AboutIsReadable name db (Ended most) = JobsAreReadable name Completed (Some most
 AboutIsReadable name db Grants = GrantsAreReadable name db
 AboutIsReadable name db (Waiting device) = WaitingIsReadable name device db
 AboutIsReadable name db (Again device number) = AgainIsReadable name device number db
-AboutIsReadable name db (OwnerPage month outcome stays needs_password) = OwnerPageIsReadable name month db
+AboutIsReadable name db (OwnerPage month outcome stays needs_password) =
+    OwnerPageIsReadable name month db
 AboutIsReadable name db (StatementPage first last form drawn_up) =
     StatementPageIsReadable name last db
 AboutIsReadable name db (DeskPage month) = DeskPageIsReadable name month db

@@ -65,8 +65,8 @@ pub(crate) fn tell_owner_page<S: Alter>(
     Ok(Reply::Line(owner_page(alloc, &owner)?))
 }
 
-/// Reads the jobs for the owner's page: all that have not ended, and the last `MOST_SHOWN` that
-/// have.
+/// Reads the jobs for the owner's page and that of the desk: all that have not ended, and the last
+/// `MOST_SHOWN` that have.
 fn read_jobs<S: Alter>(
     alloc: Global,
     connection: &mut Rounds<S>,
