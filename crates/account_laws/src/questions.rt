@@ -32,7 +32,7 @@ pub fn questions_tell_the_life()
 
 /// Law: your page, the statement of a month for paper, and the pages of the desk show your quota, your
 /// jobs and the devices as you were told of them.
-#[tactic(auto, using(crate::proofs::PagesTold::desk_pages_are_told, crate::proofs::PagesTold::devices_pages_are_told, crate::proofs::PagesTold::owner_pages_are_told, crate::proofs::PagesTold::statement_pages_are_told))]
+#[tactic(auto, using(crate::proofs::PagesTold::desk_pages_are_told, crate::proofs::PagesTold::owner_pages_are_told, crate::proofs::PagesTold::statement_pages_are_told))]
 pub fn pages_tell_the_life()
     ensures owner { OwnerPagesAreTold }
     ensures statement { StatementPagesAreTold }
