@@ -1,3 +1,5 @@
 pub mod DeskCalls
 pub mod ForeignForms
+pub mod FormLines
+pub mod FormsAsk
 pub mod Nobody
