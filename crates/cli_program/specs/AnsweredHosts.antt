@@ -9,11 +9,15 @@ use Rattle.cli_words.specs.declared.serving.Serving.{Serving}
 use Rattle.cli_words.specs.declared.visitors.Visitors.{Visitors}
 use Rattle.cli_words.specs.declared.visitors.Visitors.TheVariants.{Desk, Pages}
 
+abbrev pub is_port : Address → Bool
+is_port (Port port) = true
+is_port _ = false
+
 -- browsers come by the door, at the pages or the desk, and it is a port
 abbrev pub is_page_port_of : Visitors → Address → Bool
-is_page_port_of Pages (Port port) = true
-is_page_port_of Desk (Port port) = true
-is_page_port_of _ _ = false
+is_page_port_of Pages address = is_port address
+is_page_port_of Desk address = is_port address
+is_page_port_of _ address = false
 
 abbrev pub is_page_port : ServedDoor → Bool
 is_page_port door = is_page_port_of door.visitors door.address

@@ -6,7 +6,7 @@ ghost use Rattle.serve_peers.specs.Journals.{hosts_of, store_of};
 ghost use Rattle.serve_sockets.specs.Doors.{speech_of};
 ghost use Rattle.serve_sockets.specs.EndToEnd.{IsFresh, IsWhole};
 ghost use Rattle.serve_sockets.specs.Halls.{IsEmpty, doors_of, guests_of};
-ghost use Rattle.cli_program.specs.AnsweredHosts.{hosts_for, is_page_port, with_own};
+ghost use Rattle.cli_program.specs.AnsweredHosts.{hosts_for, is_page_port, is_port, with_own};
 ghost use Rattle.cli_program.specs.SpokenDoors.{AreSpoken, IsSpokenAt, ServesAsked};
 
 use crate::database::serve_on_database;
@@ -122,9 +122,9 @@ fn set_up<S: Alter>(
     Ok(())
 }
 
-/// The names of the Hosts that the pages and the desk answer, parted by commas: this machine's own, and those that
-/// the command says. `None`, where it says none and no browser comes by a port: who stands before a
-/// socket has judged by which name it was asked.
+/// The names of the Hosts that the pages and the desk answer, parted by commas: this machine's own,
+/// and those that the command says. `None`, where it says none and no browser comes by a port: who
+/// stands before a socket has judged by which name it was asked.
 fn hosts_for(alloc: Global, asked: &Serving<'_>) -> Result<Option<&'static [u8]>, AllocError>
     ensures { IfOk result
         (λ hosts. option_map (λ names. names.now) hosts ≡ hosts_for asked.now) }
@@ -159,10 +159,17 @@ fn has_page_port(doors: &[ServedDoor<'_>]) -> bool
 fn is_page_port(door: &ServedDoor<'_>) -> bool
     ensures { result ≡ is_page_port door.now }
 {
-    match (door.visitors, door.address) {
-        (Visitors::Pages | Visitors::Desk, Address::Port(_)) => true,
+    match door.visitors {
+        Visitors::Pages | Visitors::Desk => is_port(&door.address),
         _ => false,
     }
+}
+
+/// Whether the address is a port.
+fn is_port(address: &Address<'_>) -> bool
+    ensures { result ≡ is_port address.now }
+{
+    matches!(address, Address::Port(_))
 }
 
 /// Runs the hall until an operator ends it, with backups as files of this machine.

@@ -1,5 +1,5 @@
 -- A form that another site may have sent does nothing.
-use Rattle.std.proofs.Common.{◌≡◌, ℕ, Bool, true, false, if◌then◌else◌, List, Option, None, Some, Result, Err, refl, ap, subst}
+use Rattle.std.proofs.Common.{◌≡◌, ℕ, Bool, true, false, if◌then◌else◌, List, Option, None, Some, Result, Err, refl, subst}
 use Rattle.http.specs.Request.{head_of}
 use Rattle.http.specs.declared.request.Request.{Request}
 use Rattle.http_server.specs.declared.response.Response.{Response}
@@ -7,31 +7,25 @@ use Rattle.http_uri.specs.Uri.{uri_path}
 use Rattle.sqlite_trees.specs.declared.store.Store.{Ghosts}
 use Rattle.input_http.specs.Origins.{is_foreign}
 use Rattle.page_pages.specs.declared.refusal.Refusal.{Refusal}
-use Rattle.page_pages.specs.declared.refusal.Refusal.TheVariants.{BadRequest, Forbidden, NotFound}
+use Rattle.page_pages.specs.declared.refusal.Refusal.TheVariants.{NotFound}
 use Rattle.serve_peers.specs.Journals.{hosts_of, shares_of}
 use Rattle.serve_peers.specs.declared.served.Served.{Served}
 use Rattle.serve_web.specs.Hosts.{is_answered}
 use Rattle.serve_web.specs.Requests.{foreign_or}
+use Rattle.serve_desk.proofs.ForeignWish.{IsRefused, foreign_wish}
 use Rattle.serve_desk.specs.Answers.{AnswersAt, AnswersBy, AnswersIf, Gives}
 use Rattle.serve_desk.specs.Laws.{ForeignFormsDoNothing}
 use Rattle.serve_desk.specs.Operators.{operator_of}
 use Rattle.serve_desk.specs.Places.{place_of}
-use Rattle.serve_desk.specs.Requests.{asked, asked_if, body_refusal, judged_if, other_method, takes, unless, wish}
+use Rattle.serve_desk.specs.Requests.{asked, asked_if, judged_if, other_method, takes, wish}
 use Rattle.serve_desk.specs.declared.asked.Asked.{Asked}
 use Rattle.serve_desk.specs.declared.place.Place.{Place}
 
 -- ---- it is refused
 
-abbrev IsRefused : Result Asked Refusal → Type 0
-IsRefused wants = (why : Refusal) × (wants ≡ Err why)
-
 module _ (request : Request (List ℕ)) (foreign : is_foreign request ≡ true) where
-  wished : (asks : Option Asked) → IsRefused (judged_if request asks)
-  wished None = (BadRequest, refl)
-  wished (Some asks) = (Forbidden, ap (λ (b : Bool). if b then Err Forbidden else unless (body_refusal request asks) asks) foreign)
-
   at_place : (fits : Bool) (place : Place) (asks : Option Asked) → IsRefused (if fits then judged_if request asks else Err (foreign_or request (other_method place)))
-  at_place true place asks = wished asks
+  at_place true place asks = foreign_wish request foreign asks
   at_place false place asks = (foreign_or request (other_method place), refl)
 
   placed : (place : Option Place) → IsRefused (asked_if request place)

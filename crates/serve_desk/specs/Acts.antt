@@ -1,5 +1,5 @@
 -- Rule: What a line of the desk does, and what it came to, as its page tells it (all this project's own).
-use Rattle.std.specs.Prelude.{Option, Some, None, true, false, Result, Ok, Err}
+use Rattle.std.specs.Prelude.{Bool, Option, Some, None, true, false, Result, Ok, Err}
 use Rattle.account_machine.specs.declared.event.Reply.{Reply}
 use Rattle.account_machine.specs.declared.event.Reply.TheVariants.{NoAccount}
 use Rattle.account_machine.specs.declared.verdict.Answered.{Answered}
@@ -22,12 +22,15 @@ abbrev pub owner_deed : OwnerAct → Deed
 owner_deed owner_act.Cancel = Cancel
 owner_deed owner_act.Hold = Hold
 
+abbrev pub device_deed : (on : Bool) → Deed
+device_deed true = TurnOn
+device_deed false = TurnOff
+
 -- None where no operator asks it
 abbrev pub deed_of : Action → Option Deed
 deed_of (action.Open account) = Some Open
 deed_of (action.Grant account month pages) = Some Grant
-deed_of (action.Device name true) = Some TurnOn
-deed_of (action.Device name false) = Some TurnOff
+deed_of (action.Device name on) = Some (device_deed on)
 deed_of (action.Rate name units) = Some Rate
 deed_of (action.Owner request) = Some (owner_deed request.act)
 deed_of _ = None

@@ -75,11 +75,17 @@ ShowsAnOverview (Ok (Room listed)) closes response =
     (shown : Overview) × (gathers : Bool) × IsRoomPage shown gathers listed closes response
 ShowsAnOverview _ closes response = ⊥
 
--- the form spells no line of an operator that asks for an event
+-- the operator is told that the form spells no line that asks for an event
+pub record IsToldNoLine (request : Request (List ℕ)) (response : Response) : Type 0 where
+  pub page : LineTold
+  pub of_line : page.line.now ≡ line_of (body_of request)
+  pub by : operator_of request ≡ Some page.operator
+  pub came : page.came ≡ came_is.NoLine
+  pub onward : page.onward ≡ Accounts
+  pub tells : IsTold page (has_long_body request) response ⊎ IsLost response
+
 abbrev pub TellsNoLine : Result Asked Refusal → (request : Request (List ℕ)) → Response → Type 0
-TellsNoLine (Ok LineForm) request response = (page : LineTold) × (page.came ≡ came_is.NoLine)
-    × (page.line.now ≡ line_of (body_of request))
-    × (IsTold page (has_long_body request) response ⊎ IsLost response)
+TellsNoLine (Ok LineForm) request response = IsToldNoLine request response
 TellsNoLine _ request response = ⊥
 
 -- ---- what has no place among all that is applied
@@ -114,31 +120,36 @@ module _ {S : Type 0} (store : Ghosts S) where
     pub onward : page.onward ≡ onward_of line.action
     pub tells : IsTold page closes response ⊎ IsLost response
 
-  -- the form spells a line that an operator may ask
-  pub record AsksEvent (operator : List ℕ) (old : Served S) (request : Request (List ℕ))
+  -- the text is a line by which an operator asks for an event
+  pub record AsksEvent (operator text : List ℕ) (closes : Bool) (old : Served S)
       (response : Response) (new : Served S) : Type 0 where
     pub line : Line
-    pub read : IsLineOf (Operator (moment_of old)) (line_of (body_of request)) line
+    pub read : IsLineOf (Operator (moment_of old)) text line
     pub deed : Deed
     pub does : deed_of line.action ≡ Some deed
-    pub applies : Applies operator (line_of (body_of request)) line deed (has_long_body request)
-        old response new
+    pub applies : Applies operator text line deed closes old response new
 
-  -- the form spells none, and nothing happens
-  pub record AsksNothing (operator : List ℕ) (old : Served S) (request : Request (List ℕ))
+  -- that it is none is told, and nothing happens
+  pub record AsksNothing (operator text : List ℕ) (closes : Bool) (old : Served S)
       (response : Response) (new : Served S) : Type 0 where
     pub page : LineTold
-    pub of_line : page.line.now ≡ line_of (body_of request)
+    pub of_line : page.line.now ≡ text
     pub by : page.operator ≡ operator
     pub came : page.came ≡ came_is.NoLine
     pub onward : page.onward ≡ Accounts
-    pub tells : IsTold page (has_long_body request) response ⊎ IsLost response
+    pub tells : IsTold page closes response ⊎ IsLost response
     pub same : new ≡ old
 
+  abbrev pub AsksText : (operator text : List ℕ) (closes : Bool) (old : Served S)
+      (response : Response) (new : Served S) → Type 0
+  AsksText operator text closes old response new = AsksEvent operator text closes old response new
+      ⊎ AsksNothing operator text closes old response new
+
+  -- what is asked is the line that the form spells
   abbrev pub AsksLine : (operator : List ℕ) (old : Served S) (request : Request (List ℕ))
       (response : Response) (new : Served S) → Type 0
-  AsksLine operator old request response new = AsksEvent operator old request response new
-      ⊎ AsksNothing operator old request response new
+  AsksLine operator old request =
+      AsksText operator (line_of (body_of request)) (has_long_body request) old
 
   -- the page is shown, and a newer overview is gathered where that is due
   abbrev pub ShowsRoom : Listed → (closes : Bool) (old : Served S) (response : Response)

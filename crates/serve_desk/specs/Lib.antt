@@ -2,6 +2,7 @@ pub mod Operators
 pub mod Places
 pub mod Requests
 pub mod Lines
+pub mod ProofLines
 pub mod Acts
 pub mod Questions
 pub mod Answers

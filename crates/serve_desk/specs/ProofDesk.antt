@@ -2,6 +2,7 @@
 -- the rooms.
 use Rattle.std.specs.Prelude.{◌≡◌, ◌⊎◌, ℕ, Bool, true, false, List, Option, Some, None, Result, Ok, Err}
 use Rattle.std.proofs.Common.{inl, inr, refl, subst, sym}
+use Rattle.http.specs.Request.{body_of}
 use Rattle.http.specs.declared.request.Request.{Request}
 use Rattle.http_server.specs.declared.response.Response.{Response}
 use Rattle.sqlite_trees.specs.declared.store.Store.{Ghosts}
@@ -19,6 +20,7 @@ use Rattle.serve_peers.specs.declared.served.Served.{Served}
 use Rattle.serve_web.specs.Answers.{Shows}
 use Rattle.serve_web.specs.Hosts.{is_answered}
 use Rattle.serve_desk.specs.Answers.{Answers, AnswersAsked, AnswersAt, AnswersBy, AnswersDesk, AnswersIf, AsksEvent, AsksLine, Gives, IsStill, rooms_of}
+use Rattle.serve_desk.specs.Lines.{line_of}
 use Rattle.serve_desk.specs.Operators.{operator_of}
 use Rattle.serve_desk.specs.Questions.{question_of}
 use Rattle.serve_desk.specs.Requests.{asked}
@@ -34,7 +36,7 @@ module _ {S : Type 0} (store : Ghosts S) where
     pub operator : List ℕ
     pub named : name ≡ Some operator
     pub wanted : wants ≡ Ok LineForm
-    pub event : AsksEvent store operator old request response new
+    pub event : AsksEvent store operator (line_of (body_of request)) (has_long_body request) old response new
 
   -- a page is shown
   pub record IsLookedAt (wants : Result Asked Refusal) (old : Served S) (request : Request (List ℕ)) (response : Response) (new : Served S) : Type 0 where
@@ -52,31 +54,41 @@ module _ {S : Type 0} (store : Ghosts S) where
   same_gathered : (old new : Served S) → new ≡ old → (gathered : Gathered) × (new ≡ with_gathered old gathered)
   same_gathered old new is = (gathered_of old, is)
 
-  line_comes : (operator : List ℕ) (old : Served S) (request : Request (List ℕ)) (response : Response) (new : Served S) → AsksLine store operator old request response new → Comes (Some operator) (Ok LineForm) old request response new
-  line_comes operator old request response new (inl is) = inl (record { operator = operator; named = refl; wanted = refl; event = is })
-  line_comes operator old request response new (inr is) = inr (inr (inr (inr (inr (inr (inr (is.page, is.came, is.of_line, is.tells))))), same_gathered old new is.same))
+  line_comes : (operator : List ℕ) (old : Served S) (request : Request (List ℕ)) (response : Response) (new : Served S) → operator_of request ≡ Some operator → AsksLine store operator old request response new → Comes (Some operator) (Ok LineForm) old request response new
+  line_comes operator old request response new named (inl is) = inl (record { operator = operator; named = refl; wanted = refl; event = is })
+  line_comes operator old request response new named (inr is) = inr (inr (
+    inr (inr (inr (inr (inr (record {
+      page = is.page;
+      of_line = is.of_line;
+      by = subst (λ (name : List ℕ). operator_of request ≡ Some name) (sym is.by) named;
+      came = is.came;
+      onward = is.onward;
+      tells = is.tells;
+    }))))),
+    same_gathered old new is.same,
+  ))
 
-  asked_comes : (what : Asked) (operator : List ℕ) (old : Served S) (request : Request (List ℕ)) (response : Response) (new : Served S) → AnswersAsked store what operator old request response new → Comes (Some operator) (Ok what) old request response new
-  asked_comes Style operator old request response new is = inr (inr (inr (inr (inr (inl is.0))), same_gathered old new is.1))
-  asked_comes Script operator old request response new is = inr (inr (inr (inr (inr (inl is.0))), same_gathered old new is.1))
-  asked_comes DeskScript operator old request response new is = inr (inr (inr (inr (inr (inl is.0))), same_gathered old new is.1))
-  asked_comes (Room listed) operator old request response new is = inr (inr (inr (inr (inr (inr (inl (shown_of old, gathers (gathered_of old), is.0))))), (asked_at (moment_of old) (gathered_of old), is.1)))
-  asked_comes Devices operator old request response new is = inr (inl (record { asks = Devices; wanted = refl; shows = is }))
-  asked_comes (Account account) operator old request response new is = inr (inl (record { asks = Account account; wanted = refl; shows = is }))
-  asked_comes (Statement asks) operator old request response new is = inr (inl (record { asks = Statement asks; wanted = refl; shows = is }))
-  asked_comes LineForm operator old request response new is = line_comes operator old request response new is
+  asked_comes : (what : Asked) (operator : List ℕ) (old : Served S) (request : Request (List ℕ)) (response : Response) (new : Served S) → operator_of request ≡ Some operator → AnswersAsked store what operator old request response new → Comes (Some operator) (Ok what) old request response new
+  asked_comes Style operator old request response new named is = inr (inr (inr (inr (inr (inl is.0))), same_gathered old new is.1))
+  asked_comes Script operator old request response new named is = inr (inr (inr (inr (inr (inl is.0))), same_gathered old new is.1))
+  asked_comes DeskScript operator old request response new named is = inr (inr (inr (inr (inr (inl is.0))), same_gathered old new is.1))
+  asked_comes (Room listed) operator old request response new named is = inr (inr (inr (inr (inr (inr (inl (shown_of old, gathers (gathered_of old), is.0))))), (asked_at (moment_of old) (gathered_of old), is.1)))
+  asked_comes Devices operator old request response new named is = inr (inl (record { asks = Devices; wanted = refl; shows = is }))
+  asked_comes (Account account) operator old request response new named is = inr (inl (record { asks = Account account; wanted = refl; shows = is }))
+  asked_comes (Statement asks) operator old request response new named is = inr (inl (record { asks = Statement asks; wanted = refl; shows = is }))
+  asked_comes LineForm operator old request response new named is = line_comes operator old request response new named is
 
-  given_comes : (wants : Result Asked Refusal) (operator : List ℕ) (old : Served S) (request : Request (List ℕ)) (response : Response) (new : Served S) → Gives store wants operator old request response new → Comes (Some operator) wants old request response new
-  given_comes (Ok what) operator old request response new is = asked_comes what operator old request response new is
-  given_comes (Err why) operator old request response new is = inr (inr (inr (inr (inr (inl is.0))), same_gathered old new is.1))
+  given_comes : (wants : Result Asked Refusal) (operator : List ℕ) (old : Served S) (request : Request (List ℕ)) (response : Response) (new : Served S) → operator_of request ≡ Some operator → Gives store wants operator old request response new → Comes (Some operator) wants old request response new
+  given_comes (Ok what) operator old request response new named is = asked_comes what operator old request response new named is
+  given_comes (Err why) operator old request response new named is = inr (inr (inr (inr (inr (inl is.0))), same_gathered old new is.1))
 
-  comes_by : (name : Option (List ℕ)) (old : Served S) (request : Request (List ℕ)) (response : Response) (new : Served S) → AnswersBy store name old request response new → Comes name (asked request) old request response new
-  comes_by (Some operator) old request response new is = given_comes (asked request) operator old request response new is
-  comes_by None old request response new is = inr (inr (inr (inr (inl is.0)), same_gathered old new is.1))
+  comes_by : (name : Option (List ℕ)) (old : Served S) (request : Request (List ℕ)) (response : Response) (new : Served S) → operator_of request ≡ name → AnswersBy store name old request response new → Comes name (asked request) old request response new
+  comes_by (Some operator) old request response new named is = given_comes (asked request) operator old request response new named is
+  comes_by None old request response new named is = inr (inr (inr (inr (inl is.0)), same_gathered old new is.1))
 
   comes_at : (answered : Bool) (old : Served S) (request : Request (List ℕ)) (response : Response) (new : Served S) →
       AnswersAt store answered old request response new → Comes (operator_of request) (asked request) old request response new
-  comes_at true old request response new is = comes_by (operator_of request) old request response new is
+  comes_at true old request response new is = comes_by (operator_of request) old request response new refl is
   comes_at false old request response new is = inr (inr (inr (inl is.0), same_gathered old new is.1))
 
   answer_comes : (shares : Bool) (old : Served S) (request : Request (List ℕ)) (response : Response) (new : Served S) →

@@ -47,9 +47,12 @@ other_method Line = OnlyPost
 other_method _ = OnlyRead
 
 -- a line comes as a form, which is short
-abbrev pub body_refusal : Request (List ℕ) → Asked → Option Refusal
-body_refusal request asked_is.Line =
+abbrev pub line_refusal : Request (List ℕ) → Option Refusal
+line_refusal request =
     if nat_lt MOST_FORM (length (body_of request)) then Some BadRequest else form_refusal request
+
+abbrev pub body_refusal : Request (List ℕ) → Asked → Option Refusal
+body_refusal request asked_is.Line = line_refusal request
 body_refusal request _ = None
 
 abbrev pub unless : Option Refusal → Asked → Result Asked Refusal

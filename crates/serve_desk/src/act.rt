@@ -1,6 +1,6 @@
 //! What a line of the desk does and came to, as its page tells it.
 ghost use Rattle.std.specs.Prelude.{◌≡◌};
-ghost use Rattle.serve_desk.specs.Acts.{came_of, came_told, deed_of, onward_of, owner_deed};
+ghost use Rattle.serve_desk.specs.Acts.{came_by, came_of, came_told, deed_of, device_deed, onward_of, owner_deed};
 
 use account_machine::{Answered, Reply, Verdict};
 use account_rules::Word;
@@ -15,12 +15,18 @@ pub(crate) fn deed_of(action: &Action) -> Option<Deed>
     match action {
         Action::Open { .. } => Some(Deed::Open),
         Action::Grant { .. } => Some(Deed::Grant),
-        Action::Device { on: true, .. } => Some(Deed::TurnOn),
-        Action::Device { on: false, .. } => Some(Deed::TurnOff),
+        Action::Device { on, .. } => Some(device_deed(*on)),
         Action::Rate { .. } => Some(Deed::Rate),
         Action::Owner(request) => Some(owner_deed(request.act)),
         _ => None,
     }
+}
+
+/// Gives what becomes of a device that is switched.
+fn device_deed(on: bool) -> Deed
+    ensures { result ≡ device_deed on }
+{
+    if on { Deed::TurnOn } else { Deed::TurnOff }
 }
 
 /// Gives what an operator does in the place of an owner.
@@ -56,13 +62,22 @@ pub(crate) fn came_told(deed: Deed, told: &Result<Answered, StoreFault>) -> Came
     }
 }
 
-/// Gives what the line came to, by the verdict. An account that is not open has none.
+/// Gives what the line came to. An account that is not open is the reason why nothing was done.
 fn came_of(deed: Deed, reply: &Reply, verdict: Verdict) -> Came
     ensures { result ≡ came_of deed reply.now verdict }
 {
-    match (reply, verdict) {
-        (Reply::NoAccount, _) => Came::Refused(Word::NoAccount),
-        (_, Verdict::Done { .. }) => Came::Done(deed),
-        (_, Verdict::Refused { refusal, .. }) => Came::Refused(refusal.word),
+    match reply {
+        Reply::NoAccount => Came::Refused(Word::NoAccount),
+        _ => came_by(deed, verdict),
+    }
+}
+
+/// Gives what the line came to, by the verdict.
+fn came_by(deed: Deed, verdict: Verdict) -> Came
+    ensures { result ≡ came_by deed verdict }
+{
+    match verdict {
+        Verdict::Done { .. } => Came::Done(deed),
+        Verdict::Refused { refusal, .. } => Came::Refused(refusal.word),
     }
 }

@@ -1,6 +1,7 @@
 //! Reads what a request at the desk asks for, by its path, method, query and body.
 ghost use Rattle.std.specs.Prelude.{◌≡◌};
-ghost use Rattle.serve_desk.specs.Requests.{asked, asked_at, body_refusal, foreign_or, judged, other_method, shown, takes, wish};
+ghost use Rattle.serve_desk.specs.Requests.{asked, asked_at, body_refusal, judged, line_refusal, other_method, shown, takes, wish};
+ghost use Rattle.serve_web.specs.Requests.{foreign_or};
 
 use crate::place::{Listed, Place, listed_in, place_of};
 use account_rules::Name;
@@ -134,13 +135,22 @@ fn shown(asked: Option<PageAsked>) -> Option<Asked>
 /// The most bytes of a form that spells a line.
 const MOST_FORM: usize = 4_096;
 
-/// Gives the refusal of the body: a line comes as a form, which is short.
+/// Why the body of what is asked is refused, if it is: a line comes as a form, which is short.
 fn body_refusal(request: &Request<Bytes>, asked: &Asked) -> Option<Refusal>
     ensures { result ≡ body_refusal request.now asked.now }
 {
     match asked {
-        Asked::Line if request.body().len() > MOST_FORM => Some(Refusal::BadRequest),
-        Asked::Line => form_refusal(request),
+        Asked::Line => line_refusal(request),
         _ => None,
     }
+}
+
+/// Gives the refusal of the body of a line, if it is too long or is not sent as a form.
+fn line_refusal(request: &Request<Bytes>) -> Option<Refusal>
+    ensures { result ≡ line_refusal request.now }
+{
+    if request.body().len() > MOST_FORM {
+        return Some(Refusal::BadRequest);
+    }
+    form_refusal(request)
 }

@@ -1,11 +1,13 @@
 //! The HTTP service of the desk: answers each request of an operator's browser.
 ghost use Rattle.std.specs.Prelude.{◌≡◌, false, OnErr, OnOk};
 ghost use Rattle.http_server.specs.Response.{IsBlank};
+ghost use Rattle.input_lines.specs.Saying.{IsLineOf};
+ghost use Rattle.input_lines.specs.declared.lines.Grammar.TheVariants.{Operator};
 ghost use Rattle.serve_peers.specs.Journals.{moment_of, shares_of};
 ghost use Rattle.serve_peers.specs.Requests.{has_long_body};
 ghost use Rattle.serve_web.specs.Answers.{Shows};
 ghost use Rattle.serve_web.specs.Responses.{IsRefusal};
-ghost use Rattle.serve_desk.specs.Answers.{Answers, AnswersAsked, AnswersDesk, Applies, AsksLine, Gives, ShowsRoom, rooms_of};
+ghost use Rattle.serve_desk.specs.Answers.{Answers, AnswersAsked, AnswersDesk, Applies, AsksLine, AsksNothing, AsksText, Gives, ShowsRoom, rooms_of};
 ghost use Rattle.serve_desk.specs.Questions.{question_of};
 ghost use Rattle.serve_desk.specs.Requests.{asked};
 ghost use Rattle.serve_desk.specs.ProofDesk.{desk_continues};
@@ -142,9 +144,17 @@ fn answer_asked<S: Alter>(
         Asked::Style => put_sheet(response, "text/css; charset=utf-8", STYLE_SHEET, closes),
         Asked::Script => put_sheet(response, SCRIPT_KIND, PAGE_SCRIPT, closes),
         Asked::DeskScript => put_sheet(response, SCRIPT_KIND, DESK_SCRIPT, closes),
-        Asked::Room(listed) => show_room(served, *listed, closes, response),
+        Asked::Room(listed) => show_room(served, listed, closes, response),
         Asked::Line => ask_line(served, operator, request, response),
-        Asked::Devices | Asked::Account(_) | Asked::Statement(_) => {
+        Asked::Devices => {
+            show_page(served, asked, closes, response);
+            Ok(())
+        }
+        Asked::Account(_) => {
+            show_page(served, asked, closes, response);
+            Ok(())
+        }
+        Asked::Statement(_) => {
             show_page(served, asked, closes, response);
             Ok(())
         }
@@ -155,13 +165,13 @@ fn answer_asked<S: Alter>(
 /// where that is due.
 fn show_room<S: Alter>(
     served: &mut Served<S>,
-    listed: Listed,
+    listed: &Listed,
     closes: bool,
     response: &mut Response,
 ) -> Result<(), AllocError>
     requires { IsBlank response.old }
     ensures ok { OnOk result
-        (ShowsRoom S.Store listed closes served.old response.new served.new) }
+        (ShowsRoom S.Store listed.now closes served.old response.new served.new) }
     ensures err { OnErr result (served.new ≡ served.old) }
 {
     let mut text = Vec::new(*response.headers.allocator());
@@ -209,8 +219,7 @@ fn ask_line<S: Alter>(
     request: &Request<Bytes>,
     response: &mut Response,
 ) -> Result<(), AllocError>
-    requires blank { IsBlank response.old }
-    requires alone { shares_of served.old ≡ false }
+    requires { IsBlank response.old }
     ensures ok { OnOk result
         (AsksLine S.Store operator served.old request.now response.new served.new) }
     ensures err { OnErr result (served.new ≡ served.old) }
@@ -218,28 +227,75 @@ fn ask_line<S: Alter>(
     let alloc = *response.headers.allocator();
     let closes = has_long_body(request);
     let text = line_of(alloc, request.body().as_slice())?;
-    if let Some(line) = read_line(alloc, served.moment(), text.as_slice())? {
-        if let Some(deed) = deed_of(&line.action) {
-            return apply(
-                served,
-                operator,
-                text.as_slice(),
-                line,
-                deed,
-                closes,
-                response,
-            );
+    ask_text(served, operator, text.as_slice(), closes, response)
+}
+
+/// Asks this line, and answers what it came to.
+fn ask_text<S: Alter>(
+    served: &mut Served<S>,
+    operator: Name,
+    text: &[u8],
+    closes: bool,
+    response: &mut Response,
+) -> Result<(), AllocError>
+    requires { IsBlank response.old }
+    ensures ok { OnOk result
+        (AsksText S.Store operator text.now closes served.old response.new served.new) }
+    ensures err { OnErr result (served.new ≡ served.old) }
+{
+    let alloc = *response.headers.allocator();
+    match read_line(alloc, served.moment(), text)? {
+        Some(line) => ask_read(served, operator, text, line, closes, response),
+        None => {
+            tell_no_line(served, operator, text, closes, response);
+            Ok(())
         }
     }
+}
+
+/// Asks the line that was read, if it asks for an event, and answers what it came to.
+fn ask_read<S: Alter>(
+    served: &mut Served<S>,
+    operator: Name,
+    text: &[u8],
+    line: Line,
+    closes: bool,
+    response: &mut Response,
+) -> Result<(), AllocError>
+    requires blank { IsBlank response.old }
+    requires read { IsLineOf (Operator (moment_of served.old)) text.now line }
+    ensures ok { OnOk result
+        (AsksText S.Store operator text.now closes served.old response.new served.new) }
+    ensures err { OnErr result (served.new ≡ served.old) }
+{
+    match deed_of(&line.action) {
+        Some(deed) => apply(served, operator, text, line, deed, closes, response),
+        None => {
+            tell_no_line(served, operator, text, closes, response);
+            Ok(())
+        }
+    }
+}
+
+/// Answers that the line asks for no event of an operator, which the log tells too.
+fn tell_no_line<S: Alter>(
+    served: &mut Served<S>,
+    operator: Name,
+    text: &[u8],
+    closes: bool,
+    response: &mut Response,
+)
+    requires { IsBlank response.old }
+    ensures { AsksNothing S.Store operator text.now closes served.old response.new served.new }
+{
     served.log_refused_line(Door::Desk(operator), LineRefusal::BadLine);
     let told = LineTold {
-        line: text.as_slice(),
+        line: text,
         operator,
         came: Came::NoLine,
         onward: Onward::Accounts,
     };
     tell(response, &told, closes);
-    Ok(())
 }
 
 /// Applies a line once, for the operator, and answers what it came to.
@@ -252,7 +308,7 @@ fn apply<S: Alter>(
     closes: bool,
     response: &mut Response,
 ) -> Result<(), AllocError>
-    requires blank { IsBlank response.old }
+    requires { IsBlank response.old }
     ensures ok { OnOk result
         (Applies S.Store operator text.now line deed closes served.old response.new served.new) }
     ensures err { OnErr result (served.new ≡ served.old) }

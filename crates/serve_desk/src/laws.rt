@@ -1,6 +1,6 @@
-//! Laws: a form that another site may have sent does nothing, and nobody acts without a name; what is
-//! done at the desk is what the line does.
-ghost use Rattle.serve_desk.specs.Laws.{ForeignFormsDoNothing, FormsAskLines, NobodyActsWithoutName};
+//! Laws: a form that another site may have sent does nothing, nobody acts without a name, and a form
+//! asks the line that it spells.
+ghost use Rattle.serve_desk.specs.Laws.{AreAskedAsLines, ForeignFormsDoNothing, FormsAskTheirLines, NobodyActsWithoutName};
 
 use sqlite::Alter;
 
@@ -16,7 +16,9 @@ pub fn nobody_acts_without_name<S: Alter>()
     ensures { NobodyActsWithoutName S.Store }
 {}
 
-/// A form asks, at the moment, the event of the line that it spells, as an operator who sends that line.
-pub fn forms_ask_lines()
-    ensures { FormsAskLines }
+/// A form that is taken asks the line that it spells, for the operator whom the request names, or
+/// nothing; and that does what the line does for an operator who sends it, at the same moment.
+pub fn forms_ask_lines<S: Alter>()
+    ensures asks { FormsAskTheirLines S.Store }
+    ensures as_lines { AreAskedAsLines }
 {}

@@ -3,6 +3,7 @@ ghost use Rattle.std.specs.Prelude.{◌≡◌, ◌++◌, IfOk, IfSome, OnOk};
 ghost use Rattle.input_lines.specs.Saying.{IsLineOf};
 ghost use Rattle.input_lines.specs.declared.lines.Grammar.TheVariants.{Operator};
 ghost use Rattle.serve_desk.specs.Lines.{line_of, value_of};
+ghost use Rattle.serve_desk.specs.ProofLines.{behind_space};
 
 use input_fields::FieldFault;
 use input_http::before;
@@ -16,15 +17,22 @@ pub(crate) fn line_of(alloc: Global, form: &[u8]) -> Result<Vec<u8>, AllocError>
     ensures { IfOk result (λ line. line.items ≡ line_of form.now) }
 {
     let mut line = Vec::new(alloc);
-    let mut fields = form.split(|byte| *byte == b'&');
-    if let Some(first) = fields.next() {
-        line.extend_from_slice(value_of(first))?;
-    }
-    for field in fields {
-        line.push(b' ')?;
-        line.extend_from_slice(value_of(field))?;
+    let mut is_first = true;
+    for field in form.split(|byte| *byte == b'&') {
+        put_value(&mut line, is_first, value_of(field))?;
+        is_first = false;
     }
     Ok(line)
+}
+
+/// Appends the value of a field, behind a space where it is not the first.
+fn put_value(line: &mut Vec<u8>, is_first: bool, value: &[u8]) -> Result<(), AllocError>
+    ensures { OnOk result (line.new.items ≡ line.old.items ++ behind_space is_first value.now) }
+{
+    if !is_first {
+        line.push(b' ')?;
+    }
+    line.extend_from_slice(value)
 }
 
 /// Gives the value of a field: what stands behind its first `=`.

@@ -1,6 +1,7 @@
 //! Reads the path of a request at the desk: which page or account it leads to.
 ghost use Rattle.std.specs.Prelude.{◌≡◌};
-ghost use Rattle.serve_desk.specs.Places.{listed_behind, listed_in, place_behind, place_in, place_of, rest_in};
+ghost use Rattle.serve_desk.specs.Places.{listed_behind, listed_in, place_behind, place_in, place_of};
+ghost use Rattle.serve_web.specs.Queries.{behind_in};
 
 use account_rules::Name;
 use input_http::before;
@@ -106,13 +107,13 @@ fn listed_behind(rest: &[u8]) -> Listed
     let word = before(b'&', rest);
     Listed {
         front: Name::read(word),
-        behind: rest_in(&rest[word.len()..]),
+        behind: behind_in(&rest[word.len()..]),
     }
 }
 
 /// Reads the name behind `&behind=`, if there is one.
-fn rest_in(part: &[u8]) -> Option<Name>
-    ensures { result ≡ rest_in part.now }
+fn behind_in(part: &[u8]) -> Option<Name>
+    ensures { result ≡ behind_in part.now }
 {
     Name::read(part.strip_prefix(b"&behind=".as_slice())?)
 }

@@ -534,6 +534,7 @@ module _ {S : Type 0} (store : Ghosts S) (before : Served S) (fresh : IsFresh be
           of_line = is.event.applies.of_line;
           by = is.event.applies.by;
           came = is.event.applies.came;
+          onward = is.event.applies.onward;
           tells = is.event.applies.tells;
         } in
         inl (one, tells, its, refl, stands, subst (λ (n : ℕ). AnswersDeskNow store (store_of before) last shares calls n its ((journal ++ one ∷ []) ++ told)) long later),

@@ -20,7 +20,7 @@ use Rattle.serve_peers.specs.Requests.{has_long_body}
 use Rattle.serve_peers.specs.declared.entry.Entry.TheVariants as entry
 use Rattle.serve_peers.specs.declared.http_peer.HttpPeer.{HttpPeer}
 use Rattle.page_pages.specs.declared.desk_told.Deed.{Deed}
-use Rattle.serve_desk.specs.Acts.{came_told, deed_of}
+use Rattle.serve_desk.specs.Acts.{came_told, deed_of, onward_of}
 use Rattle.serve_desk.specs.Answers.{IsStill, IsTold}
 use Rattle.serve_desk.specs.Lines.{line_of}
 use Rattle.serve_desk.specs.Operators.{operator_of}
@@ -47,6 +47,7 @@ pub record TellsLine (call : Call) (told : Told) : Type 0 where
   pub of_line : page.line.now ≡ line_of (body_of call.0)
   pub by : page.operator ≡ operator
   pub came : page.came ≡ came_told deed told.1
+  pub onward : page.onward ≡ onward_of line.action
   pub tells : IsTold page (has_long_body call.0) call.1 ⊎ IsLost call.1
 
 module _ {S : Type 0} (store : Ghosts S) (first last : Held S) where
