@@ -2,7 +2,7 @@
 -- They come in the order of the pages: where the path takes the method, a query that is none of its path
 -- (400); a form of another site (403), a path of nothing (404), another method (405), a form of over 4096
 -- bytes (400), a body that is no form (415).
-use Rattle.std.specs.Prelude.{ℕ, Bool, List, Option, Some, None, Result, Ok, Err, bytes_eq, codes, if◌then◌else◌, length, nat_lt}
+use Rattle.std.specs.Prelude.{◌≡◌, ℕ, Bool, List, Option, Some, None, Result, Ok, Err, bytes_eq, codes, if◌then◌else◌, length, nat_lt}
 use Rattle.http.specs.Request.{body_of, head_of}
 use Rattle.http.specs.declared.request.Request.{Request}
 use Rattle.http_uri.specs.Uri.{uri_path}
@@ -79,3 +79,7 @@ asked_if request (Some place) = asked_at request place
 
 abbrev pub asked : Request (List ℕ) → Result Asked Refusal
 asked request = asked_if request (place_of (uri_path (head_of request).uri))
+
+-- it asks a line
+abbrev pub WantsLine : Request (List ℕ) → Type 0
+WantsLine request = asked request ≡ Ok asked_is.Line

@@ -25,8 +25,7 @@ use Rattle.serve_desk.specs.Answers.{IsStill, IsTold}
 use Rattle.serve_desk.specs.Lines.{line_of}
 use Rattle.serve_desk.specs.Operators.{operator_of}
 use Rattle.serve_desk.specs.Questions.{question_of}
-use Rattle.serve_desk.specs.Requests.{asked as asks_of}
-use Rattle.serve_desk.specs.declared.asked.Asked.TheVariants.{Line as LineForm}
+use Rattle.serve_desk.specs.Requests.{WantsLine, asked as asks_of}
 use Rattle.serve_web.specs.Questions.{kind_of}
 use Rattle.serve_web.specs.Responses.{IsLost, IsShown}
 use Rattle.serve_sockets.specs.Questions.{AnswersBy}
@@ -36,7 +35,7 @@ use Rattle.serve_sockets.specs.Questions.{AnswersBy}
 pub record TellsLine (call : Call) (told : Told) : Type 0 where
   pub operator : List ℕ
   pub named : operator_of call.0 ≡ Some operator
-  pub wants : asks_of call.0 ≡ Ok LineForm
+  pub wants : WantsLine call.0
   pub moment : ℕ
   pub line : Line
   pub read : IsLineOf (Operator moment) (line_of (body_of call.0)) line
