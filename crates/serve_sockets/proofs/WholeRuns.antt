@@ -1351,14 +1351,21 @@ module _ {S : Type 0} (store : Ghosts S) (before : Served S) (fresh : IsFresh be
     answered = is.answered;
   }
   stays_tells shares stays more (Pages was) (Pages left) old new on is = is
+  stays_tells shares stays more (Desk was) (Desk left) old new on is = is
   stays_tells shares stays more (Http was) left old new on is = tt
   stays_tells shares stays more (Last was) left old new on is = tt
   stays_tells shares stays more (Lines was) (Http left) old new on is = tt
   stays_tells shares stays more (Lines was) (Pages left) old new on is = tt
+  stays_tells shares stays more (Lines was) (Desk left) old new on is = tt
   stays_tells shares stays more (Lines was) (Last left) old new on is = tt
   stays_tells shares stays more (Pages was) (Http left) old new on is = tt
   stays_tells shares stays more (Pages was) (Lines left) old new on is = tt
   stays_tells shares stays more (Pages was) (Last left) old new on is = tt
+  stays_tells shares stays more (Pages was) (Desk left) old new on is = tt
+  stays_tells shares stays more (Desk was) (Http left) old new on is = tt
+  stays_tells shares stays more (Desk was) (Pages left) old new on is = tt
+  stays_tells shares stays more (Desk was) (Lines left) old new on is = tt
+  stays_tells shares stays more (Desk was) (Last left) old new on is = tt
 
   not_closed : (next : Next) (left : Guest) (now : Option Guest) → StaysAfter next (Some left) now → now ≢ None → next ≢ Close
   not_closed next left now (inl kept) there = kept.0
