@@ -1,6 +1,6 @@
 -- Laws of the desk: a form that another site may have sent does nothing, nobody acts without a name, and a
 -- form asks the line that it spells, for the operator whom the request names.
-use Rattle.std.specs.Prelude.{◌≡◌, ◌⊎◌, ℕ, IsTrue, List, None, Some, Ok, Result}
+use Rattle.std.specs.Prelude.{◌≡◌, ◌⊎◌, ℕ, IsTrue, List, None, Some, Result}
 use Rattle.http.specs.Request.{body_of}
 use Rattle.http.specs.declared.request.Request.{Request}
 use Rattle.http_server.specs.declared.response.Response.{Response}
@@ -27,8 +27,7 @@ use Rattle.serve_desk.specs.Acts.{came_told, deed_of}
 use Rattle.serve_desk.specs.Answers.{Answers, IsTold}
 use Rattle.serve_desk.specs.Lines.{line_of}
 use Rattle.serve_desk.specs.Operators.{operator_of}
-use Rattle.serve_desk.specs.Requests.{asked}
-use Rattle.serve_desk.specs.declared.asked.Asked.TheVariants.{Line as LineForm}
+use Rattle.serve_desk.specs.Requests.{WantsLine}
 
 module _ {S : Type 0} (store : Ghosts S) where
   abbrev pub ForeignFormsDoNothing : Type 0
@@ -64,7 +63,7 @@ module _ {S : Type 0} (store : Ghosts S) where
   -- a form that is taken asks its line, or nothing
   abbrev pub FormsAskTheirLines : Type 0
   FormsAskTheirLines = (old new : Served S) (request : Request (List ℕ)) (response : Response)
-      → asked request ≡ Ok LineForm → Answers store old request response new
+      → WantsLine request → Answers store old request response new
       → AsksItsLine old request response new ⊎ (new ≡ old)
 
 -- What a line of the desk is for the rooms is the event of the line itself, at the same moment; the log
