@@ -16,7 +16,7 @@ from log_page import POLICY, page_of, plain_page
 from looking import Busy, Logs, lines_of
 
 PATH = re.compile(f'/({NAME})/log')
-QUERY = re.compile(f'(?:job=({JOB})?)?(?:&?before=({MOMENT}))?')
+QUERY = re.compile(f'(?:job=(?P<job>{JOB})?(?:&before=(?P<older>{MOMENT}))?|before=(?P<before>{MOMENT}))?')
 ASKED = re.compile(f'who ({NAME}) ({JOB}|-) ({MOMENT}|-)'.encode())
 NO_OPERATOR = 'Operators come here by the desk, which says who asks.'
 # Connections at once of a socket; seconds in which a request comes or an answer goes; bytes of a request.
@@ -95,7 +95,8 @@ class Handler(http.server.BaseHTTPRequestHandler):
         elif not narrowed:
             self.refuse(400, 'Not understood', 'A job is a number from 1 to 999999.')
         else:
-            self.answer_rows(asked[1], *(number and int(number) for number in narrowed.groups()))
+            job, before = narrowed['job'], narrowed['older'] or narrowed['before']
+            self.answer_rows(asked[1], job and int(job), before and int(before))
 
     do_HEAD = do_GET
 

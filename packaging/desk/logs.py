@@ -20,7 +20,7 @@ MOST_TEXT, SECONDS, MOST_SECONDS = 256 << 20, 3, 10
 MOST_FILES, TRIES = 500, 5
 # Bytes in which a file's first moment stands.
 BEGINNING = 65536
-MOVED = re.compile(r'(?:\.(\d{1,4})|-(\d{8}(?:-\d{1,12})?))(\.gz)?')
+MOVED = re.compile(r'(?:\.(\d{1,4})|-(\d{8}(?:-\d{1,12})?))(?:\.gz)?')
 MOMENT = re.compile(rb'(\d{1,10}) ')
 
 
@@ -32,14 +32,6 @@ class Found(NamedTuple):
     # What could not be read.
     faults: list[str]
     is_there: bool
-
-
-class Packed(gzip.GzipFile):
-    """A file of gzip, which is closed with this."""
-
-    def __init__(self, file: BinaryIO):
-        super().__init__(fileobj=file)
-        self.myfileobj = file
 
 
 class Spent:
@@ -62,14 +54,14 @@ def look(path: str, account: str, read: Callable[[int, bytes], object], before: 
     files, faults = opened(path)
     try:
         for name, file in files:
-            first = first_moment(file)
+            first = first_moment(name, file)
             if before is not None and first is not None and first >= before:
                 continue
             if spent.is_enough():
                 # All that is older than the file before was not looked at.
                 return Found(rows[:MOST_ROWS], since, faults, True)
             spent.files += 1
-            of_file, fault = rows_of(file, needle, read, before, spent)
+            of_file, fault = rows_of(name, file, needle, read, before, spent)
             faults += [f'{name} {fault}'] if fault else []
             rows += of_file
             if len(rows) > MOST_ROWS:
@@ -81,11 +73,11 @@ def look(path: str, account: str, read: Callable[[int, bytes], object], before: 
     return Found(rows, None, faults, bool(files))
 
 
-def rows_of(file: BinaryIO, needle: bytes, read: Callable, before: int | None, spent: Spent) -> tuple[list, str | None]:
+def rows_of(name: str, file: BinaryIO, needle: bytes, read: Callable, before: int | None, spent: Spent) -> tuple[list, str | None]:
     """The newest rows of a file, newest first, and what was wrong with it."""
     rows, fault = collections.deque(maxlen=MOST_ROWS + 1), None
     try:
-        for line in lines_with(file, needle, spent):
+        for line in lines_with(name, file, needle, spent):
             found = MOMENT.match(line)
             if found and (before is None or int(found[1]) < before):
                 row = read(int(found[1]), line[found.end():])
@@ -102,18 +94,16 @@ class TooLong(Exception):
     """A file has more than is read of one."""
 
 
-def lines_with(file: BinaryIO, needle: bytes, spent: Spent) -> Iterator[bytes]:
+def lines_with(name: str, file: BinaryIO, needle: bytes, spent: Spent) -> Iterator[bytes]:
     """The whole lines that have the needle, in their order. Of one file that is too long and not packed only the last are looked at."""
     end, rest, skips, text = spent.seconds() + MOST_SECONDS, b'', False, 0
-    is_cut = not isinstance(file, Packed) and os.fstat(file.fileno()).st_size > MOST_TEXT
+    stream, is_cut = text_of(name, file), not is_packed(name) and os.fstat(file.fileno()).st_size > MOST_TEXT
     if is_cut:
-        file.seek(-MOST_TEXT, os.SEEK_END)
+        stream.seek(-MOST_TEXT, os.SEEK_END)
         # The first is a part of one.
         skips = True
-    else:
-        file.seek(0)
     # What comes before the place where a file is damaged is had.
-    while piece := file.read1(PIECE):
+    while piece := stream.read1(PIECE):
         text += len(piece)
         spent.text += len(piece)
         if text > MOST_TEXT + PIECE or spent.seconds() > end:
@@ -143,11 +133,20 @@ def found_in(data: bytes, whole: int, needle: bytes) -> Iterator[bytes]:
         at = data.find(needle, last, whole)
 
 
-def first_moment(file: BinaryIO) -> int | None:
+def is_packed(name: str) -> bool:
+    return name.endswith('.gz')
+
+
+def text_of(name: str, file: BinaryIO) -> BinaryIO:
+    """What the file has, from its beginning on."""
+    file.seek(0)
+    return gzip.GzipFile(fileobj=file) if is_packed(name) else file
+
+
+def first_moment(name: str, file: BinaryIO) -> int | None:
     """The moment of the first line of a file that has one near its beginning."""
     try:
-        file.seek(0)
-        for line in file.read(BEGINNING).split(b'\n')[:-1]:
+        for line in text_of(name, file).read1(BEGINNING).split(b'\n')[:-1]:
             found = MOMENT.match(line)
             if found:
                 return int(found[1])
@@ -185,7 +184,7 @@ def open_all(path: str) -> tuple[list[tuple[str, BinaryIO]], list[str]]:
             file.close()
             continue
         numbers.add(number_of(file))
-        files.append((name, Packed(file) if name.endswith('.gz') else file))
+        files.append((name, file))
     return files, faults
 
 
@@ -216,7 +215,7 @@ def names_of(path: str) -> list[str]:
     except FileNotFoundError:
         return []
     moved = {name: MOVED.fullmatch(name[len(base):]) for name in names if name.startswith(base) and name != base}
-    known = [(name, found) for name, found in moved.items() if found and not (found[3] and name[:-3] in names)]
+    known = [(name, found) for name, found in moved.items() if found and not (is_packed(name) and name[:-3] in names)]
     # `.1` is newer than `.2`, and those with a date go by it.
     numbered = sorted((int(found[1]), name) for name, found in known if found[1])
     dated = sorted(((found[2], name) for name, found in known if found[2]), reverse=True)
