@@ -313,13 +313,12 @@ class Desk:
 
 
 class Reader:
-    """Who reads the logs in a folder, where the desk there has its own: the server's is `room/log`."""
+    """Who reads the logs in a folder, where the desk there has its own: the server's is `room/log`, or at `path`."""
 
-    def __init__(self, folder):
-        self.folder, self.page, self.process = folder, f'{folder}/reader/page', None
+    def __init__(self, folder, path=None):
+        self.folder, self.path, self.page, self.process = folder, path or f'{folder}/room/log', f'{folder}/reader/page', None
         for name in ('reader', 'room', 'log'):
             os.makedirs(f'{folder}/{name}', exist_ok=True)
-        self.path = f'{folder}/room/log'
         self.start()
 
     def __enter__(self):

@@ -72,6 +72,7 @@ class Handler(http.server.BaseHTTPRequestHandler):
         """The proxy has a log."""
 
     def handle(self):
+        # A connection has one request: what stands behind it, as a body that nobody reads, would be another's next.
         head = received(self.connection, b'\r\n\r\n', MOST_HEAD)
         if b'\r\n\r\n' in head:
             self.rfile = io.BytesIO(head)
@@ -128,8 +129,6 @@ class Handler(http.server.BaseHTTPRequestHandler):
             self.refuse(code, 'Not understood', 'This is no request that is answered here.')
 
     def answer(self, status: int, body: bytes, more=()):
-        # A connection has one request: what stands behind it, as a body that nobody reads, would be another's next.
-        self.close_connection = True
         self.send_response_only(status)
         for name, value in [('Content-Type', 'text/html; charset=utf-8'), ('Content-Length', str(len(body))), ('Cache-Control', 'no-store'),
                             ('Content-Security-Policy', POLICY), ('X-Content-Type-Options', 'nosniff'), ('Referrer-Policy', 'same-origin'),
