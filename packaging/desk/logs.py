@@ -59,6 +59,7 @@ def look(path: str, account: str, read: Callable[[int, bytes], object], before: 
                 continue
             if spent.is_enough():
                 # All that is older than the file before was not looked at.
+                faults += [f'{name} and older files are not looked at'] if since is None else []
                 return Found(rows[:MOST_ROWS], since, faults, True)
             spent.files += 1
             of_file, fault = rows_of(name, file, needle, read, before, spent)
