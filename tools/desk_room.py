@@ -1,8 +1,10 @@
 """What tools/desk-tries needs around the desk: a print server of accounts, grants and jobs (docs/PROTOCOL.md) that can lose what it
-is asked or what it answers at any step, and the desk itself. It knows nothing of documents, months or other states than a debit meets.
+is asked or what it answers at any step, and the desk itself, with who reads the logs for it. The server knows nothing of documents, months or
+other states than a debit meets.
 """
 import contextlib
 import os
+import re
 import select
 import signal
 import socket
@@ -17,6 +19,8 @@ from station_room import Wrong, listens, wait_until
 
 DESK = f'{TOP}/packaging/desk/ipp-room-desk'
 ROLES = ('look', 'grant', 'devices', 'all')
+ROW = re.compile('<time datetime="([^"]*)">[^<]*</time></td><th scope="row">(.*?)(<small>.*?</small>)?</th>\n<td data-label="By">(.*?)</td>'
+                 '<td data-label="Came to">(.*?)</td></tr>')
 
 
 class Dropped(Exception):
@@ -256,7 +260,7 @@ class Desk:
             if self.limit:
                 resource.setrlimit(resource.RLIMIT_FSIZE, (self.limit, self.limit))
         words = [sys.executable, DESK, 'serve', '--room', self.room, '--doors', f'{self.folder}/doors', '--state', f'{self.folder}/state',
-                 '--log', f'{self.folder}/log/log', *(f'--group={role}={group}' for role, group in self.groups.items())]
+                 '--log', f'{self.folder}/log/log', '--reader', f'{self.folder}/reader/ask', *(f'--group={role}={group}' for role, group in self.groups.items())]
         self.process = subprocess.Popen(words, stdout=subprocess.PIPE, preexec_fn=limit)
         if not select.select([self.process.stdout], [], [], 60)[0] or not self.process.stdout.readline().startswith(b'serving '):
             raise Wrong(f'the desk did not begin: {self.process.poll()}')
@@ -306,6 +310,68 @@ class Desk:
         ended = subprocess.run([sys.executable, DESK, '--at', self.door(role), *words], stdout=subprocess.PIPE, stderr=subprocess.PIPE,
                                env=environment, **options)
         return ended.stdout.decode(), ended.stderr.decode(), ended.returncode
+
+
+class Reader:
+    """Who reads the logs in a folder, where the desk there has its own: the server's is `room/log`, or at `path`."""
+
+    def __init__(self, folder, path=None):
+        self.folder, self.path, self.page, self.process = folder, path or f'{folder}/room/log', f'{folder}/reader/page', None
+        for name in ('reader', 'room', 'log'):
+            os.makedirs(f'{folder}/{name}', exist_ok=True)
+        self.start()
+
+    def __enter__(self):
+        return self
+
+    def __exit__(self, *_):
+        self.end()
+
+    def start(self):
+        words = [sys.executable, DESK, 'log', '--sockets', f'{self.folder}/reader', '--group', str(os.getegid()), '--server', self.path,
+                 '--doors', f'{self.folder}/log/log']
+        self.process = subprocess.Popen(words, stdout=subprocess.PIPE)
+        if not select.select([self.process.stdout], [], [], 60)[0] or not self.process.stdout.readline().startswith(b'serving '):
+            raise Wrong(f'who reads the logs did not begin: {self.process.poll()}')
+
+    def kill(self):
+        self.process.kill()
+        self.process.wait()
+        self.process.stdout.close()
+
+    def end(self):
+        if self.process.poll() is None:
+            self.kill()
+
+    def connect(self, seconds=60):
+        stream = socket.socket(socket.AF_UNIX)
+        stream.settimeout(seconds)
+        stream.connect(self.page)
+        return stream
+
+    def send(self, head, seconds=60):
+        """The status, the head and the body of what these bytes are answered."""
+        with self.connect(seconds) as stream:
+            with contextlib.suppress(BrokenPipeError, ConnectionResetError):
+                stream.sendall(head)
+            head, _, body = read_to_end(stream).partition(b'\r\n\r\n')
+            return int(head.split(b' ')[1]) if head else None, head.decode('latin-1'), body.decode()
+
+    def get(self, target, *fields, method='GET', operator='olga', host='localhost'):
+        head = [f'{method} {target} HTTP/1.1', *([f'Host: {host}'] if host else []), *([f'X-Operator: {operator}'] if operator else []), *fields, '', '']
+        return self.send('\r\n'.join(head).encode('latin-1'))
+
+    def rows(self, target):
+        """What the page has of each row: moment, what, who, what it came to. Markup is left as it is."""
+        status, _, body = self.get(target)
+        if status != 200:
+            raise Wrong((target, status, body))
+        return [(found[1], found[2], found[4], found[5]) for found in ROW.finditer(body)]
+
+    def taken(self):
+        """The most memory that it has had, in MiB."""
+        with open(f'/proc/{self.process.pid}/status', encoding='ascii') as file:
+            return int(re.search(r'VmHWM:\s+(\d+) kB', file.read())[1]) >> 10
 
 
 def read_to_end(stream):

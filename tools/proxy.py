@@ -17,11 +17,11 @@ class Proxy:
 
     `port` is that of pages, `clients` that of clients. With `judge`, the socket of a judge, names and passwords are a directory's; with
     `sign_on`, a socket's path, the pages are there, for who has signed people in. `queue` is the socket of a run of ipp-room-queue,
-    `desk` the port of the desk; to that leads the port of this name.
+    `desk` the port of the desk; to that leads the port of this name. `logs` is the socket of who shows what the logs tell.
     """
 
     def __init__(self, folder, clients, pages, users, operators=(), table='rule same\n', judge=None, queue='/run/ipp-room-queue/pages', sign_on=None,
-                 desk=None):
+                 desk=None, logs='/run/ipp-room-desk-log/page'):
         self.folder, self.table, self.port, self.clients, self.stations, self.desk = folder, f'{folder}/names', *(free_port() for _ in range(4))
         words = ['openssl', 'req', '-x509', '-newkey', 'rsa:2048', '-nodes', '-keyout', f'{folder}/room.pem.key', '-out', f'{folder}/room.pem',
                  '-subj', '/CN=printroom.example']
@@ -34,6 +34,7 @@ class Proxy:
                          ('log /dev/log local0', 'log stdout format raw local0'), (':443 ', f':{self.port} '), (':631 ', f':{self.clients} '),
                          (':6312 ', f':{self.stations} '), (':8443 ', f':{self.desk} '), ('unix@/run/ipp-room/desk', f'127.0.0.1:{desk or 1}'), ('unix@/run/ipp-room/pages', f'127.0.0.1:{pages}'),
                          ('unix@/run/ipp-room/clients', f'127.0.0.1:{clients}'), ('unix@/run/ipp-room-queue/pages', f'unix@{queue}'),
+                         ('unix@/run/ipp-room-desk-log/page', f'unix@{logs}'),
                          ('    user haproxy\n', ''), ('/run/ipp-room-sign-on/pages', sign_on or '/run/ipp-room-sign-on/pages')):
             want(old in text, f'{old} is not in it')
             text = text.replace(old, new)

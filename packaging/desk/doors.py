@@ -81,8 +81,8 @@ class Peer:
 class Conversation:
     """What a peer asks at a door, and is answered."""
 
-    def __init__(self, role: str, user: str, peer: Peer, operators: str, desk: Desk, log: Log):
-        self.role, self.user, self.peer, self.desk, self.log = role, user, peer, desk, log
+    def __init__(self, role: str, user: str, peer: Peer, operators: str, logs: str, desk: Desk, log: Log):
+        self.role, self.user, self.peer, self.logs, self.desk, self.log = role, user, peer, logs, desk, log
         self.room, self.count = Lines(operators), 0
 
     def go_on(self) -> None:
@@ -108,13 +108,21 @@ class Conversation:
             return [BAD_LINE]
         if lines.word_of(line) not in lines.CHANGES:
             self.note('asks', line.decode())
-            return self.room.ask(line)
+            return self.look_up(line) if lines.word_of(line) == b'who' else self.room.ask(line)
         try:
             # Nothing is changed of which nobody could say who did it.
             self.log.put(self.role, self.user, 'asks', line.decode(), is_kept=True)
         except OSError:
             return [FAILED]
         return self.change(line)
+
+    def look_up(self, line: bytes) -> list[bytes]:
+        """What the logs tell, by who reads them."""
+        try:
+            with Lines(self.logs) as reader:
+                return reader.ask(line)
+        except Lost:
+            return [FAILED]
 
     def change(self, line: bytes) -> list[bytes]:
         if lines.word_of(line).startswith(b'correct'):
@@ -190,7 +198,7 @@ class Door:
                     del self.users[uid]
 
 
-def listen(path: str, group: int) -> socket.socket:
+def listen(path: str, group: int, waiting: int = MOST_PEERS) -> socket.socket:
     """A socket that the group's members reach. One that an earlier run left is removed; another file, or one that is served, stays."""
     with contextlib.suppress(FileNotFoundError):
         if not stat.S_ISSOCK(os.lstat(path).st_mode):
@@ -210,7 +218,7 @@ def listen(path: str, group: int) -> socket.socket:
     # Nobody connects before `listen`.
     os.chown(path, -1, group, follow_symlinks=False)
     os.chmod(path, 0o660)
-    door.listen(MOST_PEERS)
+    door.listen(waiting)
     return door
 
 
@@ -227,7 +235,7 @@ def group_of(name: str) -> int:
     return int(name) if name.isdigit() else grp.getgrnam(name).gr_gid
 
 
-def serve(doors: dict[str, tuple[str, str]], operators: str, stations: str, pages: str, corrections: str, log_path: str) -> None:
+def serve(doors: dict[str, tuple[str, str]], operators: str, stations: str, pages: str, logs: str, corrections: str, log_path: str) -> None:
     """Serves each role's door, told by its path and its group, until it is ended."""
     log = Log(log_path)
 
@@ -239,7 +247,7 @@ def serve(doors: dict[str, tuple[str, str]], operators: str, stations: str, page
     desk = Desk(corrections, operators, stations, pages, said)
 
     def converse(role: str, user: str, peer: Peer) -> None:
-        Conversation(role, user, peer, operators, desk, log).go_on()
+        Conversation(role, user, peer, operators, logs, desk, log).go_on()
 
     served = [Door(role, path, group_of(group), converse) for role, (path, group) in doors.items()]
     for door in served:

@@ -1,4 +1,5 @@
-"""The lines that each door of the desk takes, and what the print server answers them (docs/PROTOCOL.md).
+"""The lines that each door of the desk takes, and what the print server answers them (docs/PROTOCOL.md). `who ACCOUNT JOB|- BEFORE|-` is the
+desk's own: it is answered `events N`, and N lines, by who reads the logs (log_server.py).
 
 A line is taken only as a whole that stands here: so it has neither a control nor a byte outside ASCII, and a door of its own has no
 line that another role's was made for. What the print server takes besides is for the room's own socket.
@@ -20,9 +21,11 @@ RATE = '(?:[1-9][0-9]?|100)'
 UNITS = '-?[1-9][0-9]{0,7}'
 TEXT = '(?:[!-$&-~]|%[0-9A-F]{2}){1,1000}'
 FILE = '/[!-~]{0,4000}'
+# In seconds, up to the last of 2099.
+MOMENT = '[1-9][0-9]{0,9}'
 
 LOOK = ['ping', 'devices', f'accounts (?:-|{NAME})', f'left {NAME} {MONTH}', f'statement {NAME} {MONTH}', f'jobs {NAME}',
-        f'ended {NAME} {RATE}', f'grants {NAME}']
+        f'ended {NAME} {RATE}', f'grants {NAME}', f'who {NAME} (?:-|{JOB}) (?:-|{MOMENT})']
 GRANT = [f'open {NAME}', f'grant {NAME} {GRANTED_MONTH} {PAGES}']
 CORRECT = [f'(?:correct|correct-again) {NAME} {UNITS} {TEXT}']
 DEVICES = [f'device {NAME} (?:on|off)', f'rate {NAME} {RATE}']
@@ -33,7 +36,7 @@ ROLES = {'look': LOOK, 'grant': [*LOOK, *GRANT, *CORRECT], 'devices': [*LOOK, *D
 PATTERNS = {role: re.compile('|'.join(lines).encode()) for role, lines in ROLES.items()}
 CHANGES = {b'open', b'grant', b'correct', b'correct-again', b'device', b'rate', b'cancel', b'hold', b'backup', b'end'}
 # Words by which a list is answered.
-LISTS = {b'accounts': b'accounts', b'jobs': b'jobs', b'ended': b'jobs', b'grants': b'grants', b'devices': b'devices'}
+LISTS = {b'accounts': b'accounts', b'jobs': b'jobs', b'ended': b'jobs', b'grants': b'grants', b'devices': b'devices', b'who': b'events'}
 # What stands for itself in a word of text, beside letters and digits.
 SEEN = "!\"#$&'()*+,-./:;<=>?@[\\]^_`{|}~"
 
@@ -50,7 +53,7 @@ def word_of(line: bytes) -> bytes:
 def count_behind(line: bytes, first: bytes) -> int:
     """How many lines the answer has behind its first. ValueError where that is a list of none."""
     listed = LISTS.get(word_of(line))
-    found = re.fullmatch(rb'(accounts|jobs|grants|devices) (0|[1-9][0-9]{0,5})', first)
+    found = re.fullmatch(rb'(accounts|jobs|grants|devices|events) (0|[1-9][0-9]{0,5})', first)
     if found and found[1] == listed:
         return int(found[2])
     if not re.fullmatch(rb'[ -~]+', first):

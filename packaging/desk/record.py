@@ -22,6 +22,8 @@ class Log:
         with self.lock:
             file = os.open(self.path, os.O_WRONLY | os.O_APPEND | os.O_CREAT | os.O_NOFOLLOW, 0o600)
             try:
+                # The group is that of who looks things up in it.
+                os.fchmod(file, 0o640)
                 self.write(file, line.encode('ascii', 'replace'))
                 if is_kept:
                     os.fsync(file)
