@@ -26,7 +26,8 @@ PAGE = """<!DOCTYPE html>
 <main id="main">
 <nav class="pager" aria-label="Desk"><a href="/">All accounts</a><a href="/devices.html">Devices</a></nav>
 {body}</main>
-<footer class="foot"><p class="quiet">The log has no names of jobs. Requests that only look are left out. Times that name no zone are in UTC.</p></footer>
+<footer class="foot"><p class="quiet">The log has no names of jobs. Requests that only look are left out.
+Times that name no zone are in UTC.</p></footer>
 </body>
 </html>
 """
@@ -43,7 +44,8 @@ CARD = """<section class="card" aria-labelledby="told">
 {table}{rest}</section>
 """
 TABLE = """<table class="jobs dense">
-<thead><tr><th scope="col">When</th><th scope="col">What was asked</th><th scope="col">By whom</th><th scope="col">What it came to</th></tr></thead>
+<thead><tr><th scope="col">When</th><th scope="col">What was asked</th><th scope="col">By whom</th>\
+<th scope="col">What it came to</th></tr></thead>
 <tbody>
 {rows}</tbody>
 </table>

@@ -44,7 +44,8 @@ class Logs:
         faults = server.faults + doors.faults
         if not server.is_there and not server.faults:
             faults.append('The server keeps no log, or has not begun one.')
-        return cut(matched(server.rows, doors.rows), max((since for since in (server.since, doors.since) if since is not None), default=None), before, faults)
+        since = max((since for since in (server.since, doors.since) if since is not None), default=None)
+        return cut(matched(server.rows, doors.rows), since, before, faults)
 
     def look(self, whose: str, path: str, account: str, read, before: int | None) -> logs.Found:
         try:
@@ -69,13 +70,15 @@ def cut(rows: list[Row], since: int | None, before: int | None, faults: list[str
 
 def text_of(row: Row) -> str:
     """A row as a line of a terminal."""
-    moment = datetime.datetime.fromtimestamp(row.moment, datetime.timezone.utc)
     reason = f' ({row.reason})' if row.reason else ''
-    return f'{moment:%Y-%m-%d %H:%M:%S}Z  {row.who}: {row.what}{reason}: {row.came}'
+    return f'{time_of(row.moment)}  {row.who}: {row.what}{reason}: {row.came}'
+
+
+def time_of(moment: int) -> str:
+    return f'{datetime.datetime.fromtimestamp(moment, datetime.timezone.utc):%Y-%m-%d %H:%M:%SZ}'
 
 
 def lines_of(told: Told) -> list[str]:
     """All that is told, as lines."""
-    older = [] if told.older is None else [f'What is older than {datetime.datetime.fromtimestamp(told.older, datetime.timezone.utc):%Y-%m-%d %H:%M:%S}Z '
-                                           'is left out.']
+    older = [] if told.older is None else [f'What is older than {time_of(told.older)} is left out.']
     return [*(text_of(row) for row in told.rows), *older, *told.faults]

@@ -27,17 +27,18 @@ DOOR = re.compile(rf'(?P<role>look|grant|devices|all) (?P<user>[!-~]{{1,200}}) (
 # How many fields stand behind the act.
 FORMS = {'open': (), 'grant': ('month', 'pages'), 'cancel': ('job',), 'hold': ('job',), 'correct': ('units', 'reason')}
 
-REQUESTS = {'Print-Job': 'Send {job}', 'Create-Job': 'Begin to send {job}', 'Send-Document': 'Send a file of {job}', 'Cancel-Job': 'Cancel {job}',
-            'Hold-Job': 'Hold {job}', 'Release-Job': 'Release {job} to any device'}
+REQUESTS = {'Print-Job': 'Send {job}', 'Create-Job': 'Begin to send {job}', 'Send-Document': 'Send a file of {job}',
+            'Cancel-Job': 'Cancel {job}', 'Hold-Job': 'Hold {job}', 'Release-Job': 'Release {job} to any device'}
 REASONS = {
-    'no-account': 'the account is not open', 'no-job': 'there is no such job in this account',
-    'not-accepting': 'the account has as many jobs as it may have', 'closed': 'the job takes no more files', 'too-many-documents': 'the job has 8 files',
-    'stopping': 'it was told to stop before', 'ended': 'it has ended', 'printing': 'a device prints it', 'incomplete': 'not all of its files have come',
+    'no-account': 'the account is not open', 'no-job': 'there is no such job in this account', 'ended': 'it has ended',
+    'not-accepting': 'the account has as many jobs as it may have', 'closed': 'the job takes no more files',
+    'too-many-documents': 'the job has 8 files', 'document-too-large': 'it has more than 16 MiB', 'document-format': 'its format is none that is taken',
+    'stopping': 'it was told to stop before', 'printing': 'a device prints it', 'incomplete': 'not all of its files have come',
     'password': 'it has a password, which was not given', 'impressions-unknown': 'its pages are not known', 'not-held': 'it is not held',
     'not-pending': 'it is not released', 'not-processing': 'it is not printed now', 'other-device': 'another device has it',
-    'rate': 'a page counts more than 1 unit there', 'no-device': 'there is no such device', 'device-off': 'the device is off', 'exists': 'it is open already',
-    'same': 'that is so already', 'document-too-large': 'it has more than 16 MiB', 'document-format': 'its format is none that is taken',
-    'busy': 'others were at it', 'canceled': 'the owner canceled it', 'no-month': 'the account was given units back too often'}
+    'rate': 'a page counts more than 1 unit there', 'no-device': 'there is no such device', 'device-off': 'the device is off',
+    'exists': 'it is open already', 'same': 'that is so already', 'busy': 'others were at it', 'canceled': 'the owner canceled it',
+    'no-month': 'the account was given units back too often'}
 
 
 class Row(NamedTuple):
@@ -155,9 +156,10 @@ def door_row(account: str, moment: int, text: str) -> Row | None:
     if act == 'correct':
         return corrected_row(moment, found)
     job = int(found['job']) if found['job'] else None
-    what = {'open': 'Open the account', 'cancel': f'Cancel job {job}', 'hold': f'Hold job {job}'}.get(act) or granted(found['month'], int(found['pages']))
-    came = came_to(found['told']) if found['told'] else ''
-    return Row(moment, f'Operator {found["user"]}', what, came, job, act=f'{found["line"]} {found["told"] or ""}', part=part_of(found, found['line']))
+    what = {'open': 'Open the account', 'cancel': f'Cancel job {job}', 'hold': f'Hold job {job}'}.get(act)
+    what = what or granted(found['month'], int(found['pages']))
+    came, act = came_to(found['told']) if found['told'] else '', f'{found["line"]} {found["told"] or ""}'
+    return Row(moment, f'Operator {found["user"]}', what, came, job, act=act, part=part_of(found, found['line']))
 
 
 def corrected_row(moment: int, found: re.Match) -> Row | None:
@@ -200,7 +202,8 @@ def matched(server: list[Row], doors: list[Row]) -> list[Row]:
             rows.append(row._replace(came='Not known: it may have been done'))
     by_door = [row for row in rows if row.act]
     for row in server:
-        same = next((other for other in by_door if row.who == 'An operator' and row.act == other.act and abs(row.moment - other.moment) <= APART), None)
+        alike = (other for other in by_door if row.act == other.act and abs(row.moment - other.moment) <= APART)
+        same = next(alike, None) if row.who == 'An operator' else None
         if same:
             by_door.remove(same)
         else:
